@@ -1,0 +1,32 @@
+-- What an answer says of its parts. Assumes nothing.
+use Prim.Native.Nat.{ℕ, _≤_, _<_}
+use native.Mathlib.Omega.{arith}
+use mathlib.Core.Path.{_≡_, refl}
+use mathlib.Core.Bool.{Bool, true, false}
+use mathlib.Core.Logic.{_⊎_, inl, inr}
+use mathlib.Core.List.{List, [], _∷_}
+use lib.Dec.{leb}
+use borrow.Author.Tests.{leb-true, leb-false}
+use Rattle.outcome.specs.Outcome.{Res, ok, refuse, andThen, consRes, IsOk}
+
+pub ok-not-refuse : {A : Type 0} {P : Type 0} {n : ℕ} {a : A} → refuse n ≡ ok a → P
+ok-not-refuse e = absurd (let z : _≡_ {A = ℕ} 0 1 = cc in omega arith)
+
+pub ok-injective : {A : Type 0} {x y : A} → ok x ≡ ok y → x ≡ y
+ok-injective e = cc
+
+pub andThen-ok : {A B : Type 0} (r : Res A) (k : A → Res B) {y : B} → andThen r k ≡ ok y → (x : A) × (r ≡ ok x) × (k x ≡ ok y)
+andThen-ok (ok a) k e = (a, refl, e)
+andThen-ok (refuse n) k e = ok-not-refuse e
+
+pub consRes-ok : {A : Type 0} (a : A) (r : Res (List A)) {l : List A} → consRes a r ≡ ok l → (t : List A) × (r ≡ ok t) × (a ∷ t ≡ l)
+consRes-ok a (ok t) e = (t, refl, ok-injective e)
+consRes-ok a (refuse n) e = ok-not-refuse e
+
+-- a test of an order, decided
+pub le-or-lt : (a b : ℕ) → (a ≤ b) ⊎ (b < a)
+le-or-lt a b = go (leb a b) refl
+  where
+    go : (t : Bool) → leb a b ≡ t → (a ≤ b) ⊎ (b < a)
+    go true e = inl (leb-true a b e)
+    go false e = inr (leb-false a b e)

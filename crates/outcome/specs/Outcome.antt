@@ -1,0 +1,39 @@
+-- What a definition of the reader answers: a value, or the number of a refusal in the table of docs/FORMAT.md.
+-- Assumes nothing: these are definitions.
+use Prim.Native.Nat.{ℕ}
+use mathlib.Core.Bool.{Bool, cond}
+use mathlib.Core.List.{List, [], _∷_}
+
+pub data Res (A : Type 0) : Type 0 where
+  ok : A → Res A
+  refuse : ℕ → Res A
+
+-- the refusals that the layers give, by name
+abbrev pub short-pixels : ℕ
+short-pixels = 22
+
+abbrev pub field-ran-out : ℕ
+field-ran-out = 26
+
+-- r where the test holds, else the refusal n: what is asked first refuses first
+abbrev pub check : {A : Type 0} → Bool → ℕ → Res A → Res A
+check t n r = cond t r (refuse n)
+
+abbrev pub andThen : {A B : Type 0} → Res A → (A → Res B) → Res B
+andThen (ok a) k = k a
+andThen (refuse n) k = refuse n
+
+-- a in front of what follows
+abbrev pub consRes : {A : Type 0} → A → Res (List A) → Res (List A)
+consRes a (ok l) = ok (a ∷ l)
+consRes a (refuse n) = refuse n
+
+-- what was listed; nothing, where it was refused
+abbrev pub listed : {A : Type 0} → Res (List A) → List A
+listed (ok l) = l
+listed (refuse n) = []
+
+-- it was not refused
+abbrev pub IsOk : {A : Type 0} → Res A → Type 0
+IsOk (ok a) = Unit {0}
+IsOk (refuse n) = ⊥

@@ -1,0 +1,31 @@
+-- `rle::decode_rle_field` meets its contract: the map is long enough or it is refused. Assumes nothing.
+use mathlib.Core.Path.{sym, _∙_}
+use borrow.Author.Tests.{leb-true}
+use native.Mathlib.Omega.{arith}
+use borrow.Author.Needs.{needs}
+use Rattle.rle.proofs.Turns.{decoded-short}
+use Rattle.rle.proofs.decode_rle_field.Statement.{statement}
+use Rattle.rle.proofs.decode_rle_field.Tie as tie
+use Rattle.rle.proofs.decode_rle_field.Reads as reads
+use Rattle.rle.proofs.decode_rle_field.Lts as lts
+use Rattle.rle.proofs.decode_rows.Reads as decode-rows-reads
+use Rattle.rle.proofs.holds.Reads as holds-reads
+
+holds-requires : tie.Need-holds-requires
+holds-requires c κs = search needs
+
+decode-rows-requires : tie.Need-decode-rows-requires
+decode-rows-requires c κs = leb-true _ _ (sym (c .before .before .holds .ensures) ∙ c .before .if1 .taken)
+
+same-length : tie.Need-same-length
+same-length c = search needs
+
+returns : tie.Need-returns
+returns c = search needs
+
+returns-2 : tie.Need-returns-2
+returns-2 c = decoded-short _ _ _ _ _ (sym (c .before .holds .ensures) ∙ c .if1 .left)
+
+pub decode-rle-field-spec : {M : Type 1} → statement M
+decode-rle-field-spec =
+    tie.close (tie.spec holds-requires decode-rows-requires same-length returns returns-2)

@@ -1,0 +1,76 @@
+-- What each answer of the code means: the listed codes, counted, or the number of the refusal; and what the functions that write leave.
+-- Assumes nothing: these are definitions.
+use Prim.Native.Nat.{ℕ, _+_, _-_, _*_, _≤_, _<_, _^_}
+use mathlib.Core.Path.{_≡_}
+use mathlib.Core.List.{List, [], _∷_}
+use lib.ListN.{length}
+use lib.Seq.{sets}
+use Rattle.outcome.specs.Outcome.{Res, ok, refuse, listed}
+use Rattle.grammar.specs.Rows.{Code, paints, afterCodes}
+use Rattle.grammar.specs.Pixels.{rowPixels}
+use Rattle.rle.specs.Codes.{rowAt, fieldAt}
+use Rattle.rle.specs.Field.{decoded, paintField}
+use Rattle.rle.specs.declared.Cursor.{Cursor}
+use Rattle.rle.specs.declared.Counts.{Counts}
+use Rattle.rle.specs.declared.CodeAnswer.{CodeAnswer}
+use Rattle.rle.specs.declared.CodeAnswer.the-variants as code-answer
+use Rattle.rle.specs.declared.RowAnswer.{RowAnswer}
+use Rattle.rle.specs.declared.RowAnswer.the-variants as row-answer
+use Rattle.rle.specs.declared.FieldAnswer.{FieldAnswer}
+use Rattle.rle.specs.declared.FieldAnswer.the-variants as field-answer
+
+abbrev pub code : ℕ → ℕ → ℕ → Code
+code p k v = record { place = p; size = k; value = v }
+
+-- ---- What rows count (FORMAT 5.9). Only this part names the fields of `Counts`
+
+abbrev pub nothing : Counts
+nothing = record { codes = 0 }
+
+abbrev pub plus : Counts → Counts → Counts
+plus a b = record { codes = a .codes + b .codes }
+
+-- what the code c adds, with `left` pixels of its row to go
+abbrev pub counted : ℕ → Code → Counts
+counted left c = record { codes = 1 }
+
+-- each count is at most n
+abbrev pub AtMost : ℕ → Counts → Type 0
+AtMost n a = a .codes ≤ n
+
+unfoldable pub rowCounts : ℕ → List Code → Counts
+rowCounts left [] = nothing
+rowCounts left (c ∷ cs) = plus (counted left c) (rowCounts (left - paints left c) cs)
+
+unfoldable pub fieldCounts : ℕ → List (List Code) → Counts
+fieldCounts w [] = nothing
+fieldCounts w (r ∷ rs) = plus (rowCounts w r) (fieldCounts w rs)
+
+-- ---- Answers
+
+abbrev pub codeAnswer : Res Code → CodeAnswer
+codeAnswer (ok c) = code-answer.Got (c .size) (c .value) (record { pos = c .place + c .size })
+codeAnswer (refuse n) = code-answer.Refused n
+
+-- of a row of width w whose codes start at p: what it counts, and the place after it
+abbrev pub rowAnswer : ℕ → ℕ → Res (List Code) → RowAnswer
+rowAnswer w p (ok cs) = row-answer.Row (rowCounts w cs) (record { pos = afterCodes p cs })
+rowAnswer w p (refuse n) = row-answer.Refused n
+
+abbrev pub fieldAnswer : ℕ → Res (List (List Code)) → FieldAnswer
+fieldAnswer w (ok rs) = field-answer.Rows (fieldCounts w rs)
+fieldAnswer w (refuse n) = field-answer.Refused n
+
+-- a field of n rows, measured
+abbrev pub measured : List ℕ → ℕ → ℕ → FieldAnswer
+measured s w n = fieldAnswer w (fieldAt s (length s) w n 0)
+
+-- what filling a row of width w from place o on leaves
+pub record RowFilled (s : List ℕ) (w p o : ℕ) (px : List ℕ) (r : Cursor) (px′ : List ℕ) : Type 0 where
+  pub next : r .pos ≡ afterCodes p (listed (rowAt s (length s) w p))
+  pub pixels : px′ ≡ sets px o (rowPixels w (listed (rowAt s (length s) w p)))
+
+-- what decoding a field leaves: on a refusal nothing is listed, so the map is as found
+pub record Decoded (s : List ℕ) (w h start : ℕ) (px : List ℕ) (r : FieldAnswer) (px′ : List ℕ) : Type 0 where
+  pub answer : r ≡ fieldAnswer w (decoded s w h start px)
+  pub pixels : px′ ≡ paintField w (start * w) (listed (decoded s w h start px)) px

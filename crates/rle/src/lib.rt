@@ -1,0 +1,290 @@
+// The run codes of a picture's fields, read nibble by nibble into rows of the index map (docs/FORMAT.md, section 5).
+use outcome::FIELD_RAN_OUT;
+use outcome::SHORT_PIXELS;
+ghost use mathlib.Core.Path.{_≡_};
+ghost use Prim.Native.Nat.{ℕ, _+_, _*_, _-_, _/_, _<_, _≤_, _^_, min};
+ghost use lib.ListN.{length, replicate};
+ghost use lib.Seq.{sets};
+ghost use lib.Dec.{leb};
+ghost use Rattle.outcome.specs.Outcome.{IsOk, listed};
+ghost use Rattle.grammar.specs.Bytes.{nibble};
+ghost use Rattle.rle.specs.Codes.{codeAt, rowAt, fieldAt};
+ghost use Rattle.rle.specs.Field.{paintField};
+ghost use Rattle.grammar.specs.Rows.{paints};
+ghost use Rattle.rle.specs.Answers.{code, plus, AtMost, codeAnswer, rowAnswer, measured, RowFilled, Decoded};
+
+// A half-byte count over a field's bytes.
+pub struct Cursor {
+    pub pos: usize,
+}
+
+// What rows count.
+pub struct Counts {
+    // Codes read, fills and clipped ones included.
+    pub codes: usize,
+}
+
+// What reading a code finds.
+pub enum CodeAnswer {
+    // A code of `size` nibbles that make `value`, and the place after it.
+    Got {
+        size: usize,
+        value: usize,
+        next: Cursor,
+    },
+    // The number of the refusal.
+    Refused(u8),
+}
+
+// What measuring a row finds.
+pub enum RowAnswer {
+    // What its codes count, and the place after the last.
+    Row { counts: Counts, next: Cursor },
+    Refused(u8),
+}
+
+// What a field gives.
+pub enum FieldAnswer {
+    // What its rows count.
+    Rows(Counts),
+    Refused(u8),
+}
+
+// The nibble at half byte p.
+fn nibble_at(field: &[u8], p: usize) -> usize
+    requires { ⌜ p < 2 * length (now field) ⌝ }
+    ensures { λ r. ⌜ r ≡ nibble (now (field .entry)) p ⌝ }
+{
+    let i = p / 2;
+    let b = field[i] as usize;
+    if p % 2 == 0 { b / 16 } else { b % 16 }
+}
+
+// The code at a place.
+pub fn read_code(field: &[u8], c: Cursor) -> CodeAnswer
+    ensures { λ r. ⌜ r ≡ codeAnswer (codeAt (now (field .entry)) (length (now (field .entry))) (c .pos)) ⌝ }
+{
+    let at = c.pos;
+    let total = field.len() * 2;
+    if total <= at {
+        return CodeAnswer::Refused(FIELD_RAN_OUT);
+    }
+    let room = total - at;
+    let mut value: usize = 0;
+    let mut size: usize = 0;
+    // 4 to the power of size: what a code of so many nibbles makes at least
+    let mut least: usize = 1;
+    while size < room {
+        value = value * 16 + nibble_at(field, at + size);
+        size += 1;
+        least *= 4;
+        let end = at + size;
+        if least <= value {
+            return CodeAnswer::Got {
+                size,
+                value,
+                next: Cursor { pos: end },
+            };
+        }
+        if size == 4 {
+            return CodeAnswer::Got {
+                size,
+                value,
+                next: Cursor { pos: end },
+            };
+        }
+    }
+    CodeAnswer::Refused(FIELD_RAN_OUT)
+}
+
+fn lesser(a: usize, b: usize) -> usize
+    ensures { λ r. ⌜ r ≡ min a b ⌝ }
+{
+    if a < b { a } else { b }
+}
+
+// How many of the pixels left a code paints.
+fn painted(left: usize, size: usize, value: usize) -> usize
+    ensures { λ r. ⌜ ((p : ℕ) → r ≡ paints left (code p size value)) ⌝ }
+{
+    let run = lesser(left, value / 4);
+    if size == 4 {
+        if value < 256 {
+            return left;
+        }
+        return run;
+    }
+    run
+}
+
+fn plus_counts(a: Counts, b: Counts) -> Counts
+    requires { ⌜ AtMost (2 ^ 64 - 1) (plus a b) ⌝ }
+    ensures { λ r. ⌜ r ≡ plus a b ⌝ }
+{
+    Counts {
+        codes: a.codes + b.codes,
+    }
+}
+
+// A row's codes, counted, and the place after them.
+pub fn measure_row(field: &[u8], c: Cursor, width: usize) -> RowAnswer
+    ensures { λ r. ⌜ r ≡ rowAnswer width (c .pos) (rowAt (now (field .entry)) (length (now (field .entry))) width (c .pos)) ⌝ }
+{
+    let mut pos = c.pos;
+    let mut left = width;
+    let mut counts = Counts { codes: 0 };
+    while 0 < left {
+        match read_code(field, Cursor { pos }) {
+            CodeAnswer::Got { size, value, next } => {
+                counts = plus_counts(counts, Counts { codes: 1 });
+                let n = painted(left, size, value);
+                left -= n;
+                pos = next.pos;
+            }
+            CodeAnswer::Refused(number) => {
+                return RowAnswer::Refused(number);
+            }
+        }
+    }
+    RowAnswer::Row {
+        counts,
+        next: Cursor { pos },
+    }
+}
+
+// A run of one colour: the one loop over pixels, which compiles to a fill.
+fn fill_run(pixels: &mut [u8], start: usize, count: usize, colour: u8)
+    requires { ⌜ start + count ≤ length (now pixels) ⌝ }
+    ensures { λ _. ⌜ now (pixels .exit) ≡ sets (now (pixels .entry)) start (replicate count colour) ⌝ }
+{
+    let mut i = 0;
+    while i < count {
+        pixels[start + i] = colour;
+        i += 1;
+    }
+}
+
+// A row whose codes are all there, painted from place `start` on; answers the place after its codes.
+fn fill_row(field: &[u8], c: Cursor, width: usize, start: usize, pixels: &mut [u8]) -> Cursor
+    requires { ⌜ start + width ≤ length (now pixels) ⌝ }
+    requires { ⌜ IsOk (rowAt (now field) (length (now field)) width (c .pos)) ⌝ }
+    ensures { λ r. ⌜ RowFilled (now (field .entry)) width (c .pos) start (now (pixels .entry)) r (now (pixels .exit)) ⌝ }
+{
+    let mut pos = c.pos;
+    let mut left = width;
+    let mut to = start;
+    while 0 < left {
+        let CodeAnswer::Got { size, value, next } = read_code(field, Cursor { pos }) else {
+            return Cursor { pos };
+        };
+        let n = painted(left, size, value);
+        let colour = (value % 4) as u8;
+        fill_run(pixels, to, n, colour);
+        left -= n;
+        to += n;
+        pos = next.pos;
+    }
+    Cursor { pos }
+}
+
+// The codes of a field of so many rows, counted.
+pub fn measure_field(field: &[u8], width: usize, rows: usize) -> FieldAnswer
+    ensures { λ r. ⌜ r ≡ measured (now (field .entry)) width rows ⌝ }
+{
+    let mut counts = Counts { codes: 0 };
+    // rows of no pixels have no codes
+    if width == 0 {
+        return FieldAnswer::Rows(counts);
+    }
+    let mut pos: usize = 0;
+    let mut left = rows;
+    while 0 < left {
+        match measure_row(field, Cursor { pos }, width) {
+            RowAnswer::Row { counts: more, next } => {
+                counts = plus_counts(counts, more);
+                let end = next.pos;
+                // a row starts on a byte
+                pos = end + end % 2;
+                left -= 1;
+            }
+            RowAnswer::Refused(number) => {
+                return FieldAnswer::Refused(number);
+            }
+        }
+    }
+    FieldAnswer::Rows(counts)
+}
+
+// A field whose codes are all there, painted: its first row from place `start` on, each next one two rows on.
+pub fn fill_field(field: &[u8], width: usize, rows: usize, start: usize, pixels: &mut [u8])
+    requires { ⌜ start + rows * (2 * width) ≤ length (now pixels) + width ⌝ }
+    requires { ⌜ IsOk (fieldAt (now field) (length (now field)) width rows 0) ⌝ }
+    ensures { λ _. ⌜ now (pixels .exit) ≡ paintField width start (listed (fieldAt (now (field .entry)) (length (now (field .entry))) width rows 0)) (now (pixels .entry)) ⌝ }
+{
+    if width == 0 {
+        return;
+    }
+    let mut pos: usize = 0;
+    let mut left = rows;
+    let mut to = start;
+    while 0 < left {
+        let next = fill_row(field, Cursor { pos }, width, to, pixels);
+        let end = next.pos;
+        pos = end + end % 2;
+        to = to + width + width;
+        left -= 1;
+    }
+}
+
+// Whether `len` pixels hold width times height, a product that may be too large for a usize.
+fn holds(len: usize, width: usize, height: usize) -> bool
+    ensures { λ r. ⌜ r ≡ leb (width * height) len ⌝ }
+{
+    if width == 0 {
+        return true;
+    }
+    height <= len / width
+}
+
+// The rows start_row, start_row + 2, .. below height of a map that holds them, measured before the first pixel is stored.
+fn decode_rows(
+    field: &[u8],
+    width: usize,
+    height: usize,
+    start_row: usize,
+    pixels: &mut [u8],
+) -> FieldAnswer
+    requires { ⌜ width * height ≤ length (now pixels) ⌝ }
+    ensures { λ r. ⌜ Decoded (now (field .entry)) width height «start_row» (now (pixels .entry)) r (now (pixels .exit)) ⌝ }
+{
+    if height <= start_row {
+        return FieldAnswer::Rows(Counts { codes: 0 });
+    }
+    let span = height - start_row;
+    let rows = span / 2 + span % 2;
+    let start = start_row * width;
+    match measure_field(field, width, rows) {
+        FieldAnswer::Rows(counts) => {
+            fill_field(field, width, rows, start, pixels);
+            FieldAnswer::Rows(counts)
+        }
+        FieldAnswer::Refused(number) => FieldAnswer::Refused(number),
+    }
+}
+
+// The rows start_row, start_row + 2, .. below height of a map of that width and height. On a refusal the map is as found.
+// Ruled out: rows painted before the field is known to be whole; a row that starts inside a byte.
+pub fn decode_rle_field(
+    field: &[u8],
+    width: usize,
+    height: usize,
+    start_row: usize,
+    pixels: &mut [u8],
+) -> FieldAnswer
+    ensures { λ r. ⌜ Decoded (now (field .entry)) width height «start_row» (now (pixels .entry)) r (now (pixels .exit)) ⌝ }
+{
+    if holds(pixels.len(), width, height) {
+        return decode_rows(field, width, height, start_row, pixels);
+    }
+    FieldAnswer::Refused(SHORT_PIXELS)
+}
