@@ -1,0 +1,54 @@
+-- The table of cards: bytes, what the definitions make of them, and what they should make. Each layer adds its rows.
+-- Assumes nothing: these are definitions.
+use Prim.Native.Nat.{ℕ, _*_}
+use mathlib.Core.List.{List, [], _∷_, _++_}
+use lib.ListN.{length, replicate}
+use Rattle.outcome.specs.Outcome.{Res, ok, refuse, listed}
+use Rattle.grammar.specs.Rows.{Code, colour, paints}
+use Rattle.rle.specs.Codes.{codeAt}
+use Rattle.rle.specs.Field.{decoded, paintField}
+use Rattle.rle.specs.Answers.{fieldCounts}
+
+pub record Card : Type 0 where
+  pub got : List ℕ
+  pub want : List ℕ
+
+abbrev card : List ℕ → List ℕ → Card
+card g w = record { got = g; want = w }
+
+-- 0 and the values of what was accepted, or the number of the refusal
+abbrev outcome : {A : Type 0} → (A → List ℕ) → Res A → List ℕ
+outcome f (ok a) = 0 ∷ f a
+outcome f (refuse n) = n ∷ []
+
+-- the code at the front of s: its nibbles, how many of 1,000 pixels it paints, and their colour
+unfoldable pub code : List ℕ → List ℕ
+code s = outcome (λ c. c .size ∷ paints 1000 c ∷ colour c ∷ []) (codeAt s (length s) 0)
+
+-- the field s read into the rows start, start + 2, .. of the map px: the number of codes, and the map
+unfoldable pub field : List ℕ → ℕ → ℕ → ℕ → List ℕ → List ℕ
+field s w h start px = outcome (λ rs. fieldCounts w rs .codes ∷ paintField w (start * w) rs px) (decoded s w h start px)
+
+-- the map px with the rows of a top field and then those of a bottom field in it
+unfoldable pub fields : List ℕ → List ℕ → ℕ → ℕ → List ℕ → List ℕ
+fields top bottom w h px =
+    paintField w w (listed (decoded bottom w h 1 px)) (paintField w 0 (listed (decoded top w h 0 px)) px)
+
+unfoldable pub table : List Card
+table =
+    -- F: 3 of 3; 10: 4 of 0; 3F: 15 of 3; 040: 16 of 0; 0FF: 63 of 3; 0100: 64 of 0; 03FF: 255 of 3; 00F7: fill with 3
+    card (code (0xF0 ∷ [])) (0 ∷ 1 ∷ 3 ∷ 3 ∷ [])
+    ∷ card (code (0x10 ∷ [])) (0 ∷ 2 ∷ 4 ∷ 0 ∷ [])
+    ∷ card (code (0x3F ∷ [])) (0 ∷ 2 ∷ 15 ∷ 3 ∷ [])
+    ∷ card (code (0x04 ∷ 0x00 ∷ [])) (0 ∷ 3 ∷ 16 ∷ 0 ∷ [])
+    ∷ card (code (0x0F ∷ 0xF0 ∷ [])) (0 ∷ 3 ∷ 63 ∷ 3 ∷ [])
+    ∷ card (code (0x01 ∷ 0x00 ∷ [])) (0 ∷ 4 ∷ 64 ∷ 0 ∷ [])
+    ∷ card (code (0x03 ∷ 0xFF ∷ [])) (0 ∷ 4 ∷ 255 ∷ 3 ∷ [])
+    ∷ card (code (0x00 ∷ 0xF7 ∷ [])) (0 ∷ 4 ∷ 1000 ∷ 3 ∷ [])
+    -- 65 by 1: 64 of 1 and one 2, from two codes
+    ∷ card (field (0x01 ∷ 0x01 ∷ 0x00 ∷ 0x02 ∷ []) 65 1 0 (replicate 65 0)) (0 ∷ 2 ∷ replicate 64 1 ++ 2 ∷ [])
+    -- 2 by 2, 1 1 2 3: the top field, the bottom field, and both in a map that has one byte more
+    ∷ card (field (0x00 ∷ 0x01 ∷ []) 2 2 0 (9 ∷ 9 ∷ 9 ∷ 9 ∷ [])) (0 ∷ 1 ∷ 1 ∷ 1 ∷ 9 ∷ 9 ∷ [])
+    ∷ card (field (0x60 ∷ 0x00 ∷ 0x30 ∷ []) 2 2 1 (9 ∷ 9 ∷ 9 ∷ 9 ∷ [])) (0 ∷ 2 ∷ 9 ∷ 9 ∷ 2 ∷ 3 ∷ [])
+    ∷ card (fields (0x00 ∷ 0x01 ∷ []) (0x60 ∷ 0x00 ∷ 0x30 ∷ []) 2 2 (0 ∷ 0 ∷ 0 ∷ 0 ∷ 9 ∷ [])) (1 ∷ 1 ∷ 2 ∷ 3 ∷ 9 ∷ [])
+    ∷ []

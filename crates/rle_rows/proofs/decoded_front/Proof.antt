@@ -1,0 +1,38 @@
+-- `rle_rows::decoded_front` is safe and ends. Assumes nothing.
+use mathlib.Core.Path.{sym}
+use lib.Seq.{length-take-le}
+use borrow.Author.Needs.{needs}
+use Rattle.rle_rows.proofs.decoded_front.Statement.{statement}
+use Rattle.rle_rows.proofs.decoded_front.Tie as tie
+use Rattle.rle_rows.proofs.decoded_front.Reads as reads
+use Rattle.rle_rows.proofs.decoded_front.Lts as lts
+use Rattle.rle_rows.proofs.decoded.Reads as decoded-reads
+
+slice-relend-prefix-decoded : tie.Need-slice-relend-prefix-decoded
+slice-relend-prefix-decoded c = search needs
+
+slice-aggregate-decoded : tie.Need-slice-aggregate-decoded
+slice-aggregate-decoded c = sym (length-take-le _ _ (c .before .if1 .taken))
+
+decoded-requires : tie.Need-decoded-requires
+decoded-requires c κs = search needs
+
+same-length : tie.Need-same-length
+same-length c = search needs
+
+returns : tie.Need-returns
+returns c = search needs
+
+returns-2 : tie.Need-returns-2
+returns-2 c = search needs
+
+pub decoded-front-spec : {M : Type 1} → statement M
+decoded-front-spec =
+    tie.close
+    (tie.spec
+    slice-relend-prefix-decoded
+    slice-aggregate-decoded
+    decoded-requires
+    same-length
+    returns
+    returns-2)
