@@ -15,7 +15,7 @@ use Rattle.outcome.specs.Lists.{Listed}
 use Rattle.outcome.proofs.Laws.{ok-not-refuse, ok-injective, andThen-ok, consRes-ok, le-or-lt}
 use Rattle.outcome.proofs.Lists.{list-iff, list-step}
 use Rattle.grammar.specs.Bytes.{nibble, nibbles}
-use Rattle.grammar.specs.Rows.{Code, IsCode, paints, RowCodes, afterCodes, align, FieldRows}
+use Rattle.grammar.specs.Rows.{Code, IsCode, fills, paints, RowCodes, afterCodes, align, FieldRows}
 use Rattle.grammar.proofs.Unique.{nibbles-below}
 use Rattle.rle.specs.Codes.{made, codeFrom, codeAt, Standing, standing, rowDone, rowCode, rowNext, rowAt, fieldAt}
 
@@ -100,15 +100,20 @@ paints-le left c = go (eqb (c .size) 4 && ltb (c .value) 256)
     go true = omega arith
     go false = omega arith
 
-pub paints-pos : (u : List ℕ) (e left : ℕ) (c : Code) → IsCode u e c → 0 < left → 0 < paints left c
-unfolding paints
-paints-pos u e left c g l =
+-- a code fills, or its number is 4 at least
+pub code-kind : (u : List ℕ) (e : ℕ) (c : Code) → IsCode u e c → (fills c ≡ true) ⊎ ((fills c ≡ false) × (4 ≤ c .value))
+code-kind u e c g =
     ⊎-elim
     (λ q.
-    rw (eq-eqb (c .size) 4 q)
-    (⊎-elim (λ h. rw (le-ltb _ _ h) (omega arith)) (λ h. rw (lt-ltb (c .value) 256 h) l) (le-or-lt 256 (c .value))))
-    (λ f. rw (ne-eqb (c .size) 4 (omega arith)) (omega (arith, four-le-pow (c .size) (g .one), g .least f)))
+    ⊎-elim (λ h. inr (rw (eq-eqb (c .size) 4 q, le-ltb (c .value) 256 h), omega arith))
+    (λ h. inl (rw (eq-eqb (c .size) 4 q, lt-ltb (c .value) 256 h)))
+    (le-or-lt 256 (c .value)))
+    (λ f. inr (rw (ne-eqb (c .size) 4 (omega arith)), omega (arith, four-le-pow (c .size) (g .one), g .least f)))
     (eq-or-lt-of-le (g .four))
+
+pub paints-pos : (u : List ℕ) (e left : ℕ) (c : Code) → IsCode u e c → 0 < left → 0 < paints left c
+unfolding paints
+paints-pos u e left c g l = ⊎-elim (λ q. rw q l) (λ q. rw (q .0) (omega (arith, q .1))) (code-kind u e c g)
 
 -- ---- Rows
 

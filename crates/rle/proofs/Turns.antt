@@ -1,6 +1,6 @@
 -- One turn of each loop, over plain variables, and what each answer says of the definitions. Assumes nothing.
-use Prim.Native.Nat.{ℕ, zero, suc, _+_, _-_, _*_, _/_, _%_, _^_, _≤_, _<_, min}
-use native.Mathlib.Nat.{pow-succ', suc-mul, zero-mul, mul-comm, mul-le-mul-right, add-mul, mul-assoc, le-div-iff-mul-le}
+use Prim.Native.Nat.{ℕ, zero, suc, zero-le, _+_, _-_, _*_, _/_, _%_, _^_, _≤_, _<_, min}
+use native.Mathlib.Nat.{pow-succ', suc-mul, zero-mul, mul-comm, mul-le-mul-right, le-mul-of-pos-right, lt-of-le-of-lt, add-mul, mul-assoc, le-div-iff-mul-le}
 use native.Mathlib.Numerals.{add-one}
 use native.Mathlib.Omega.{arith, not-le}
 use mathlib.Core.Path.{_≡_, refl, sym, ap, _∙_, subst}
@@ -18,7 +18,8 @@ use Rattle.grammar.specs.Rows.{Code, IsCode, colour, paints, RowCodes, afterCod
 use Rattle.grammar.specs.Pixels.{rowPixels}
 use Rattle.rle.specs.Codes.{made, codeFrom, codeAt, rowAt, fieldAt}
 use Rattle.rle.specs.Field.{rowsFrom, paintField, decoded}
-use Rattle.rle.specs.Answers.{code, nothing, plus, counted, AtMost, rowCounts, fieldCounts, codeAnswer, rowAnswer, fieldAnswer, measured, Decoded}
+use Rattle.rle.specs.Kept.{keptRow, keptAll}
+use Rattle.rle.specs.Answers.{code, nothing, plus, counted, AtMost, rowCounts, fieldCounts, codeAnswer, rowAnswer, fieldAnswer, measured, RowsDecoded, Decoded}
 use Rattle.rle.specs.declared.Cursor.{Cursor}
 use Rattle.rle.specs.declared.Counts.{Counts}
 use Rattle.rle.specs.declared.CodeAnswer.the-variants as code-answer
@@ -85,6 +86,10 @@ nothing-plus a = let z : 0 + a .codes ≡ a .codes = omega arith in λ i. record
 pub at-most-le : (m n : ℕ) (a : Counts) → m ≤ n → AtMost m a → AtMost n a
 at-most-le m n a h l = omega arith
 
+pub at-most-align : (m : ℕ) (a : Counts) → AtMost m a → AtMost (align m) a
+unfolding align
+at-most-align m a l = at-most-le m (m + m % 2) a (omega arith) l
+
 pub at-most-counted : (p k left : ℕ) (c : Code) (a : Counts) → 1 ≤ k → AtMost p a → AtMost (p + k) (plus a (counted left c))
 at-most-counted p k left c a h l = omega arith
 
@@ -149,7 +154,7 @@ row-whole (row-answer.Row b x) = ap (λ (a : Counts). row-answer.Row a x) (nothi
 row-whole (row-answer.Refused n) = refl
 
 module _ (u : List ℕ) (e left p : ℕ) (h : 0 < left) where
-  row-turn : (k v m : ℕ) (x : Cursor) → Coded u e p k v x → m ≡ paints left (code p k v)
+  pub row-turn : (k v m : ℕ) (x : Cursor) → Coded u e p k v x → m ≡ paints left (code p k v)
       → rowAt u e left p ≡ consRes (code p k v) (rowAt u e (left - m) (x .pos))
   row-turn k v m x g q = rw (g .goes, q, row-step u e left p h, g .here)
 
@@ -273,7 +278,7 @@ field-whole (field-answer.Rows b) = ap field-answer.Rows (nothing-plus b)
 field-whole (field-answer.Refused n) = refl
 
 module _ (u : List ℕ) (e w n p : ℕ) (h : 0 < n) where
-  field-step : fieldAt u e w n p ≡ andThen (rowAt u e w p) (λ r. consRes r (fieldAt u e w (n - 1) (align (afterCodes p r))))
+  pub field-step : fieldAt u e w n p ≡ andThen (rowAt u e w p) (λ r. consRes r (fieldAt u e w (n - 1) (align (afterCodes p r))))
   unfolding fieldAt
   field-step = let z : n ≡ suc (n - 1) = omega arith in go n z
     where
@@ -283,9 +288,9 @@ module _ (u : List ℕ) (e w n p : ℕ) (h : 0 < n) where
   pub field-short : (k : ℕ) → rowAt u e w p ≡ refuse k → fieldAt u e w n p ≡ refuse k
   field-short k q = rw (field-step, q)
 
-  pub field-more : (a b d : Counts) (at : ℕ) (x : Cursor) → Rowed u e w p b x → at ≡ x .pos + x .pos % 2 → d ≡ plus a b
+  pub field-more : (a b d : Counts) (at : ℕ) (x : Cursor) → Rowed u e w p b x → at ≡ align (x .pos) → d ≡ plus a b
       → plusField d (fieldAnswer w (fieldAt u e w (n - 1) at)) ≡ plusField a (fieldAnswer w (fieldAt u e w n p))
-  unfolding align fieldCounts
+  unfolding fieldCounts
   field-more a b d at x g q f = rw (field-step, g .here, q, g .goes, f, g .count) (go (fieldAt u e w (n - 1) (align (afterCodes p (g .cs)))))
     where
       go : (o : Res (List (List Code))) → plusField (plus a (rowCounts w (g .cs))) (fieldAnswer w o) ≡ plusField a (fieldAnswer w (consRes (g .cs) o))
@@ -300,9 +305,8 @@ module _ (u : List ℕ) (e w n p : ℕ) (h : 0 < n) where
       go (refuse k) f = f
       go (ok r) f = tt
 
-  field-turn : IsOk (fieldAt u e w n p) → (q at : ℕ) → q ≡ afterCodes p (listed (rowAt u e w p)) → at ≡ q + q % 2
+  pub field-turn : IsOk (fieldAt u e w n p) → (q at : ℕ) → q ≡ afterCodes p (listed (rowAt u e w p)) → at ≡ align q
       → fieldAt u e w n p ≡ consRes (listed (rowAt u e w p)) (fieldAt u e w (n - 1) at)
-  unfolding align
   field-turn i q at hq ha = rw (field-step, ha, hq) (go (rowAt u e w p) (row-there i))
     where
       go : (o : Res (List Code)) → IsOk o
@@ -310,14 +314,17 @@ module _ (u : List ℕ) (e w n p : ℕ) (h : 0 < n) where
       go (refuse k) f = absurd f
       go (ok r) f = refl
 
-  pub field-there : IsOk (fieldAt u e w n p) → (q at : ℕ) → q ≡ afterCodes p (listed (rowAt u e w p)) → at ≡ q + q % 2 → IsOk (fieldAt u e w (n - 1) at)
+  pub field-there : IsOk (fieldAt u e w n p) → (q at : ℕ) → q ≡ afterCodes p (listed (rowAt u e w p)) → at ≡ align q → IsOk (fieldAt u e w (n - 1) at)
   field-there i q at hq ha = go (fieldAt u e w (n - 1) at) (rw (field-turn i q at hq ha) at i)
     where
       go : (o : Res (List (List Code))) → IsOk (consRes (listed (rowAt u e w p)) o) → IsOk o
       go (refuse k) f = f
       go (ok rs) f = f
 
-  pub field-paint : IsOk (fieldAt u e w n p) → (q at : ℕ) → q ≡ afterCodes p (listed (rowAt u e w p)) → at ≡ q + q % 2
+  pub rows-there : (b : Counts) (x : Cursor) → Rowed u e w p b x → IsOk (fieldAt u e w n p) → (at : ℕ) → at ≡ align (x .pos) → IsOk (fieldAt u e w (n - 1) at)
+  rows-there b x g i at q = field-there i (x .pos) at (g .goes ∙ rw (g .here)) q
+
+  pub field-paint : IsOk (fieldAt u e w n p) → (q at : ℕ) → q ≡ afterCodes p (listed (rowAt u e w p)) → at ≡ align q
       → (px px′ : List ℕ) (o : ℕ) → px′ ≡ sets px o (rowPixels w (listed (rowAt u e w p)))
       → paintField w (o + w + w) (listed (fieldAt u e w (n - 1) at)) px′ ≡ paintField w o (listed (fieldAt u e w n p)) px
   unfolding paintField
@@ -347,24 +354,25 @@ unfolding fieldAt paintField
 field-paint-end u e w n p o px q = rw q
 
 -- rows of no pixels: no codes, and nothing is painted
-record Blank (u : List ℕ) (e n p : ℕ) : Type 0 where
-  rs : List (List Code)
-  here : fieldAt u e 0 n p ≡ ok rs
-  none : fieldCounts 0 rs ≡ nothing
-  kept : (o : ℕ) (px : List ℕ) → paintField 0 o rs px ≡ px
+pub record Blank (u : List ℕ) (e n p : ℕ) : Type 0 where
+  pub rs : List (List Code)
+  pub here : fieldAt u e 0 n p ≡ ok rs
+  pub none : fieldCounts 0 rs ≡ nothing
+  pub bare : keptAll 0 rs ≡ []
+  pub same : (o : ℕ) (px : List ℕ) → paintField 0 o rs px ≡ px
 
-blank : (u : List ℕ) (e n p : ℕ) → Blank u e n p
-unfolding fieldAt fieldCounts rowCounts paintField rowPixels afterCodes
-blank u e zero p = record { rs = []; here = refl; none = refl; kept = λ o px. refl }
+pub blank : (u : List ℕ) (e n p : ℕ) → Blank u e n p
+unfolding fieldAt fieldCounts rowCounts paintField rowPixels afterCodes keptRow keptAll
+blank u e zero p = record { rs = []; here = refl; none = refl; bare = refl; same = λ o px. refl }
 blank u e (suc n) p =
     let b = blank u e n (align p) in
-    record { rs = [] ∷ b .rs; here = rw (row-none, b .here); none = rw (b .none); kept = λ o px. b .kept (o + 2 * 0) px }
+    record { rs = [] ∷ b .rs; here = rw (row-none, b .here); none = rw (b .none); bare = b .bare; same = λ o px. b .same (o + 2 * 0) px }
 
 pub blank-counts : (u : List ℕ) (e w n : ℕ) → w ≡ 0 → field-answer.Rows nothing ≡ fieldAnswer w (fieldAt u e w n 0)
 blank-counts u e w n q = rw (q, blank u e n 0 .here, blank u e n 0 .none)
 
 pub blank-kept : (u : List ℕ) (e w n o : ℕ) (px : List ℕ) → w ≡ 0 → px ≡ paintField w o (listed (fieldAt u e w n 0)) px
-blank-kept u e w n o px q = rw (q, blank u e n 0 .here, blank u e n 0 .kept)
+blank-kept u e w n o px q = rw (q, blank u e n 0 .here, blank u e n 0 .same)
 
 pub mul-pred : (n x : ℕ) → 0 < n → n * x ≡ (n - 1) * x + x
 mul-pred n x h = let z : n ≡ suc (n - 1) = omega arith in go n z
@@ -397,6 +405,9 @@ rows-some s h a = omega arith
 -- the first row's place fits a number, and the last row ends within the map
 pub start-fits : (s h w l : ℕ) → s < h → w * h ≤ l → s * w ≤ l
 start-fits s h w l a b = let m : s * w ≤ h * w = mul-le-mul-right w (omega arith) in omega (arith, mul-comm w h)
+
+pub width-fits : (s h w l : ℕ) → s < h → w * h ≤ l → w ≤ l
+width-fits s h w l a b = omega (arith, le-mul-of-pos-right w (lt-of-le-of-lt zero-le a))
 
 pub rows-fit : (s h w l : ℕ) → s < h → w * h ≤ l → s * w + rowsFrom s h * (2 * w) ≤ l + w
 unfolding rowsFrom
@@ -441,10 +452,5 @@ module _ (s : List ℕ) (w h start : ℕ) (px : List ℕ) where
     unfolding fieldAt fieldCounts paintField
     decoded-none a = let q : ok [] ≡ decoded s w h start px = decoded-held 0 (sym (rows-none start h a)) in record { answer = rw (← q); pixels = rw (← q) }
 
-    module _ (n : ℕ) (q : n ≡ rowsFrom start h) where
-      pub decoded-rows : (r : FieldAnswer) (px′ : List ℕ) → r ≡ measured s w n → px′ ≡ paintField w (start * w) (listed (fieldAt s (length s) w n 0)) px
-          → Decoded s w h start px r px′
-      decoded-rows r px′ a b = let d = decoded-held n q in record { answer = rw (← d) a; pixels = rw (← d) b }
-
-      pub decoded-refused : (k : ℕ) → field-answer.Refused k ≡ measured s w n → Decoded s w h start px (field-answer.Refused k) px
-      decoded-refused k a = decoded-rows (field-answer.Refused k) px a (refused-kept w (start * w) k _ px (unfielded s (length s) w n 0 k a))
+    pub decoded-rows : (n : ℕ) → n ≡ rowsFrom start h → (r : FieldAnswer) (px′ : List ℕ) → RowsDecoded s w n (start * w) px r px′ → Decoded s w h start px r px′
+    decoded-rows n q r px′ f = let d = decoded-held n q in record { answer = rw (← d) (f .answer); pixels = rw (← d) (f .pixels) }

@@ -5,11 +5,12 @@ use mathlib.Core.Path.{_≡_}
 use mathlib.Core.List.{List, [], _∷_}
 use lib.ListN.{length}
 use lib.Seq.{sets}
-use Rattle.outcome.specs.Outcome.{Res, ok, refuse, listed}
+use Rattle.outcome.specs.Outcome.{Res, ok, refuse, listed, IsOk}
 use Rattle.grammar.specs.Rows.{Code, paints, afterCodes}
 use Rattle.grammar.specs.Pixels.{rowPixels}
 use Rattle.rle.specs.Codes.{rowAt, fieldAt}
 use Rattle.rle.specs.Field.{decoded, paintField}
+use Rattle.rle.specs.Kept.{keptRow, keptAll}
 use Rattle.rle.specs.declared.Cursor.{Cursor}
 use Rattle.rle.specs.declared.Counts.{Counts}
 use Rattle.rle.specs.declared.CodeAnswer.{CodeAnswer}
@@ -65,10 +66,25 @@ fieldAnswer w (refuse n) = field-answer.Refused n
 abbrev pub measured : List ℕ → ℕ → ℕ → FieldAnswer
 measured s w n = fieldAnswer w (fieldAt s (length s) w n 0)
 
+-- what measuring a row leaves: a row that is there has its codes kept from place i on
+pub record RowMeasured (s : List ℕ) (w p i : ℕ) (ks : List ℕ) (r : RowAnswer) (ks′ : List ℕ) : Type 0 where
+  pub answer : r ≡ rowAnswer w p (rowAt s (length s) w p)
+  pub keeps : IsOk (rowAt s (length s) w p) → ks′ ≡ sets ks i (keptRow w (listed (rowAt s (length s) w p)))
+
+-- what measuring a field leaves
+pub record FieldMeasured (s : List ℕ) (w n : ℕ) (ks : List ℕ) (r : FieldAnswer) (ks′ : List ℕ) : Type 0 where
+  pub answer : r ≡ measured s w n
+  pub keeps : IsOk (fieldAt s (length s) w n 0) → ks′ ≡ sets ks 0 (keptAll w (listed (fieldAt s (length s) w n 0)))
+
 -- what filling a row of width w from place o on leaves
 pub record RowFilled (s : List ℕ) (w p o : ℕ) (px : List ℕ) (r : Cursor) (px′ : List ℕ) : Type 0 where
   pub next : r .pos ≡ afterCodes p (listed (rowAt s (length s) w p))
   pub pixels : px′ ≡ sets px o (rowPixels w (listed (rowAt s (length s) w p)))
+
+-- what decoding a field's n rows from place o on leaves
+pub record RowsDecoded (s : List ℕ) (w n o : ℕ) (px : List ℕ) (r : FieldAnswer) (px′ : List ℕ) : Type 0 where
+  pub answer : r ≡ measured s w n
+  pub pixels : px′ ≡ paintField w o (listed (fieldAt s (length s) w n 0)) px
 
 -- what decoding a field leaves: on a refusal nothing is listed, so the map is as found
 pub record Decoded (s : List ℕ) (w h start : ℕ) (px : List ℕ) (r : FieldAnswer) (px′ : List ℕ) : Type 0 where

@@ -1,3 +1,4 @@
 pub mod Codes
 pub mod Field
+pub mod Kept
 pub mod Answers

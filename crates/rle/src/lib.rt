@@ -2,16 +2,17 @@
 use outcome::FIELD_RAN_OUT;
 use outcome::SHORT_PIXELS;
 ghost use mathlib.Core.Path.{_≡_};
-ghost use Prim.Native.Nat.{ℕ, _+_, _*_, _-_, _/_, _<_, _≤_, _^_, min};
-ghost use lib.ListN.{length, replicate};
+ghost use Prim.Native.Nat.{ℕ, _+_, _*_, _-_, _/_, _%_, _<_, _≤_, _^_, min};
+ghost use lib.ListN.{length, replicate, set, take};
 ghost use lib.Seq.{sets};
 ghost use lib.Dec.{leb};
 ghost use Rattle.outcome.specs.Outcome.{IsOk, listed};
 ghost use Rattle.grammar.specs.Bytes.{nibble};
 ghost use Rattle.rle.specs.Codes.{codeAt, rowAt, fieldAt};
 ghost use Rattle.rle.specs.Field.{paintField};
-ghost use Rattle.grammar.specs.Rows.{paints};
-ghost use Rattle.rle.specs.Answers.{code, plus, AtMost, codeAnswer, rowAnswer, measured, RowFilled, Decoded};
+ghost use Rattle.rle.specs.Kept.{keptRun, leftAfter, placeAfter, paintKept, KeptFits};
+ghost use Rattle.grammar.specs.Rows.{paints, align};
+ghost use Rattle.rle.specs.Answers.{code, plus, AtMost, codeAnswer, measured, RowMeasured, FieldMeasured, RowFilled, RowsDecoded, Decoded};
 
 // A half-byte count over a field's bytes.
 pub struct Cursor {
@@ -126,9 +127,27 @@ fn plus_counts(a: Counts, b: Counts) -> Counts
     }
 }
 
-// A row's codes, counted, and the place after them.
-pub fn measure_row(field: &[u8], c: Cursor, width: usize) -> RowAnswer
-    ensures { λ r. ⌜ r ≡ rowAnswer width (c .pos) (rowAt (now (field .entry)) (length (now (field .entry))) width (c .pos)) ⌝ }
+// The first half byte from pos on that starts a byte.
+fn aligned(pos: usize) -> usize
+    requires { ⌜ pos < 2 ^ 64 - 1 ⌝ }
+    ensures { λ r. ⌜ r ≡ align pos ⌝ }
+{
+    pos + pos % 2
+}
+
+// A run of n pixels in the colour of a code, kept at place `at`, where there is room for it.
+fn keep(kept: &mut [u16], at: usize, n: usize, value: usize)
+    ensures { λ _. ⌜ now (kept .exit) ≡ set (now (kept .entry)) at (keptRun n (value % 4)) ⌝ }
+{
+    if at < kept.len() {
+        kept[at] = (n % 16384 * 4 + value % 4) as u16;
+    }
+}
+
+// A row's codes, counted, kept from place `from` on, and the place after them.
+fn measure_row(field: &[u8], c: Cursor, width: usize, kept: &mut [u16], from: usize) -> RowAnswer
+    requires { ⌜ from ≤ c .pos ⌝ }
+    ensures { λ r. ⌜ RowMeasured (now (field .entry)) width (c .pos) from (now (kept .entry)) r (now (kept .exit)) ⌝ }
 {
     let mut pos = c.pos;
     let mut left = width;
@@ -136,8 +155,10 @@ pub fn measure_row(field: &[u8], c: Cursor, width: usize) -> RowAnswer
     while 0 < left {
         match read_code(field, Cursor { pos }) {
             CodeAnswer::Got { size, value, next } => {
-                counts = plus_counts(counts, Counts { codes: 1 });
+                let at = from + counts.codes;
                 let n = painted(left, size, value);
+                keep(kept, at, n, value);
+                counts = plus_counts(counts, Counts { codes: 1 });
                 left -= n;
                 pos = next.pos;
             }
@@ -187,9 +208,9 @@ fn fill_row(field: &[u8], c: Cursor, width: usize, start: usize, pixels: &mut [u
     Cursor { pos }
 }
 
-// The codes of a field of so many rows, counted.
-pub fn measure_field(field: &[u8], width: usize, rows: usize) -> FieldAnswer
-    ensures { λ r. ⌜ r ≡ measured (now (field .entry)) width rows ⌝ }
+// The codes of a field of so many rows, counted, and kept as far as there is room.
+fn measure_kept(field: &[u8], width: usize, rows: usize, kept: &mut [u16]) -> FieldAnswer
+    ensures { λ r. ⌜ FieldMeasured (now (field .entry)) width rows (now (kept .entry)) r (now (kept .exit)) ⌝ }
 {
     let mut counts = Counts { codes: 0 };
     // rows of no pixels have no codes
@@ -199,12 +220,11 @@ pub fn measure_field(field: &[u8], width: usize, rows: usize) -> FieldAnswer
     let mut pos: usize = 0;
     let mut left = rows;
     while 0 < left {
-        match measure_row(field, Cursor { pos }, width) {
+        let from = counts.codes;
+        match measure_row(field, Cursor { pos }, width, kept, from) {
             RowAnswer::Row { counts: more, next } => {
                 counts = plus_counts(counts, more);
-                let end = next.pos;
-                // a row starts on a byte
-                pos = end + end % 2;
+                pos = aligned(next.pos);
                 left -= 1;
             }
             RowAnswer::Refused(number) => {
@@ -215,8 +235,16 @@ pub fn measure_field(field: &[u8], width: usize, rows: usize) -> FieldAnswer
     FieldAnswer::Rows(counts)
 }
 
+// The codes of a field of so many rows, counted.
+pub fn measure_field(field: &[u8], width: usize, rows: usize) -> FieldAnswer
+    ensures { λ r. ⌜ r ≡ measured (now (field .entry)) width rows ⌝ }
+{
+    let mut kept = [0u16; 1];
+    measure_kept(field, width, rows, &mut kept)
+}
+
 // A field whose codes are all there, painted: its first row from place `start` on, each next one two rows on.
-pub fn fill_field(field: &[u8], width: usize, rows: usize, start: usize, pixels: &mut [u8])
+fn fill_field(field: &[u8], width: usize, rows: usize, start: usize, pixels: &mut [u8])
     requires { ⌜ start + rows * (2 * width) ≤ length (now pixels) + width ⌝ }
     requires { ⌜ IsOk (fieldAt (now field) (length (now field)) width rows 0) ⌝ }
     ensures { λ _. ⌜ now (pixels .exit) ≡ paintField width start (listed (fieldAt (now (field .entry)) (length (now (field .entry))) width rows 0)) (now (pixels .entry)) ⌝ }
@@ -229,10 +257,44 @@ pub fn fill_field(field: &[u8], width: usize, rows: usize, start: usize, pixels:
     let mut to = start;
     while 0 < left {
         let next = fill_row(field, Cursor { pos }, width, to, pixels);
-        let end = next.pos;
-        pos = end + end % 2;
+        pos = aligned(next.pos);
         to = to + width + width;
         left -= 1;
+    }
+}
+
+// The pixels left of the row, or of the next row where none is.
+fn left_after(width: usize, left: usize) -> usize
+    ensures { λ r. ⌜ r ≡ leftAfter width left ⌝ }
+{
+    if left == 0 { width } else { left }
+}
+
+// The place to go on from: past the row between where none is left.
+fn place_after(width: usize, left: usize, to: usize) -> usize
+    requires { ⌜ to + width < 2 ^ 64 ⌝ }
+    ensures { λ r. ⌜ r ≡ placeAfter width left to ⌝ }
+{
+    if left == 0 { to + width } else { to }
+}
+
+// The first `count` kept codes, painted from place `start` on: a row's end goes past the row between.
+fn fill_kept(kept: &[u16], count: usize, width: usize, start: usize, pixels: &mut [u8])
+    requires { ⌜ (count ≤ length (now kept)) × (width ≤ length (now pixels)) × KeptFits (length (now pixels)) width width start (take count (now kept)) ⌝ }
+    ensures { λ _. ⌜ now (pixels .exit) ≡ paintKept width width start (take count (now (kept .entry))) (now (pixels .entry)) ⌝ }
+{
+    let mut k = 0;
+    let mut left = width;
+    let mut to = start;
+    while k < count {
+        let v = kept[k] as usize;
+        let n = v / 4;
+        let colour = (v % 4) as u8;
+        fill_run(pixels, to, n, colour);
+        let rest = left - n;
+        to = place_after(width, rest, to + n);
+        left = left_after(width, rest);
+        k += 1;
     }
 }
 
@@ -246,7 +308,99 @@ fn holds(len: usize, width: usize, height: usize) -> bool
     height <= len / width
 }
 
-// The rows start_row, start_row + 2, .. below height of a map that holds them, measured before the first pixel is stored.
+// A field's rows, measured before the first pixel is stored: from place `start` on, each next one two rows on.
+fn decode_through(
+    field: &[u8],
+    width: usize,
+    rows: usize,
+    start: usize,
+    kept: &mut [u16],
+    pixels: &mut [u8],
+) -> FieldAnswer
+    requires { ⌜ (width ≤ length (now pixels)) × (start + rows * (2 * width) ≤ length (now pixels) + width) ⌝ }
+    ensures { λ r. ⌜ RowsDecoded (now (field .entry)) width rows start (now (pixels .entry)) r (now (pixels .exit)) ⌝ }
+{
+    match measure_kept(field, width, rows, kept) {
+        FieldAnswer::Rows(counts) => {
+            let n = counts.codes;
+            if n <= kept.len() {
+                if width < 16384 {
+                    fill_kept(kept, n, width, start, pixels);
+                    return FieldAnswer::Rows(counts);
+                }
+            }
+            // more codes than were kept, or longer runs: the codes are read again
+            fill_field(field, width, rows, start, pixels);
+            FieldAnswer::Rows(counts)
+        }
+        FieldAnswer::Refused(number) => FieldAnswer::Refused(number),
+    }
+}
+
+// The same with room of its own for the codes of a field: as many as it has nibbles, or 65,536.
+fn decode_small(
+    field: &[u8],
+    width: usize,
+    rows: usize,
+    start: usize,
+    pixels: &mut [u8],
+) -> FieldAnswer
+    requires { ⌜ (width ≤ length (now pixels)) × (start + rows * (2 * width) ≤ length (now pixels) + width) ⌝ }
+    ensures { λ r. ⌜ RowsDecoded (now (field .entry)) width rows start (now (pixels .entry)) r (now (pixels .exit)) ⌝ }
+{
+    let mut kept = [0u16; 2048];
+    decode_through(field, width, rows, start, &mut kept, pixels)
+}
+
+fn decode_medium(
+    field: &[u8],
+    width: usize,
+    rows: usize,
+    start: usize,
+    pixels: &mut [u8],
+) -> FieldAnswer
+    requires { ⌜ (width ≤ length (now pixels)) × (start + rows * (2 * width) ≤ length (now pixels) + width) ⌝ }
+    ensures { λ r. ⌜ RowsDecoded (now (field .entry)) width rows start (now (pixels .entry)) r (now (pixels .exit)) ⌝ }
+{
+    let mut kept = [0u16; 16384];
+    decode_through(field, width, rows, start, &mut kept, pixels)
+}
+
+fn decode_large(
+    field: &[u8],
+    width: usize,
+    rows: usize,
+    start: usize,
+    pixels: &mut [u8],
+) -> FieldAnswer
+    requires { ⌜ (width ≤ length (now pixels)) × (start + rows * (2 * width) ≤ length (now pixels) + width) ⌝ }
+    ensures { λ r. ⌜ RowsDecoded (now (field .entry)) width rows start (now (pixels .entry)) r (now (pixels .exit)) ⌝ }
+{
+    let mut kept = [0u16; 65536];
+    decode_through(field, width, rows, start, &mut kept, pixels)
+}
+
+fn decode_sized(
+    field: &[u8],
+    width: usize,
+    rows: usize,
+    start: usize,
+    pixels: &mut [u8],
+) -> FieldAnswer
+    requires { ⌜ (width ≤ length (now pixels)) × (start + rows * (2 * width) ≤ length (now pixels) + width) ⌝ }
+    ensures { λ r. ⌜ RowsDecoded (now (field .entry)) width rows start (now (pixels .entry)) r (now (pixels .exit)) ⌝ }
+{
+    // no more room than the field can use: clearing it costs time
+    if field.len() <= 1024 {
+        return decode_small(field, width, rows, start, pixels);
+    }
+    if field.len() <= 8192 {
+        return decode_medium(field, width, rows, start, pixels);
+    }
+    decode_large(field, width, rows, start, pixels)
+}
+
+// The rows start_row, start_row + 2, .. below height of a map that holds them.
 fn decode_rows(
     field: &[u8],
     width: usize,
@@ -263,13 +417,7 @@ fn decode_rows(
     let span = height - start_row;
     let rows = span / 2 + span % 2;
     let start = start_row * width;
-    match measure_field(field, width, rows) {
-        FieldAnswer::Rows(counts) => {
-            fill_field(field, width, rows, start, pixels);
-            FieldAnswer::Rows(counts)
-        }
-        FieldAnswer::Refused(number) => FieldAnswer::Refused(number),
-    }
+    decode_sized(field, width, rows, start, pixels)
 }
 
 // The rows start_row, start_row + 2, .. below height of a map of that width and height. On a refusal the map is as found.

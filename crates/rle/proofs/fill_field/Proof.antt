@@ -44,17 +44,17 @@ fill-row-requires c κs =
 
 ends : (c : tie.After-slice-known2 Inv-loop μ-loop) → c .before .before .fill-row .result .pos ≤ 2 * length (now (c .before .before .before .before .before .before .before .before .before .args .field))
 ends c =
-    rw (c .before .before .fill-row .ensures .next)
-    (row-goes-inside _ _ _ _ _ (c .before .before .before .before .loop-test .taken) (c .before .before .before .before .before .loop .inv .there) (c .before .before .before .before .before .loop .inv .wide))
+    let i = c .before .before .before .before .before .loop .inv in
+    rw (c .before .before .fill-row .ensures .next) (row-goes-inside _ _ _ _ _ (c .before .before .before .before .loop-test .taken) (i .there) (i .wide))
 
-add-pos : tie.Need-add-pos Inv-loop μ-loop
-add-pos c = omega (arith, ends c)
+aligned-requires : tie.Need-aligned-requires Inv-loop μ-loop
+aligned-requires c κs = omega (arith, ends c)
 
 add-to : tie.Need-add-to Inv-loop μ-loop
-add-to c = omega (arith, mul-pred (c .before .before .before .before .before .loop .left) (2 * c .before .before .before .before .before .before .before .before .before .args .width) (omega arith))
+add-to c = omega (arith, mul-pred (c .before .before .before .before .before .before .loop .left) (2 * c .before .before .before .before .before .before .before .before .before .before .args .width) (omega arith))
 
 add-to-2 : tie.Need-add-to-2 Inv-loop μ-loop
-add-to-2 c = omega (arith, mul-pred (c .before .before .before .before .before .loop .left) (2 * c .before .before .before .before .before .before .before .before .before .args .width) (omega arith))
+add-to-2 c = omega (arith, mul-pred (c .before .before .before .before .before .before .loop .left) (2 * c .before .before .before .before .before .before .before .before .before .before .args .width) (omega arith))
 
 sub-left : tie.Need-sub-left Inv-loop μ-loop
 sub-left c = omega arith
@@ -64,15 +64,15 @@ loop-less c = omega arith
 
 loop-again : tie.Need-loop-again Inv-loop μ-loop
 loop-again c =
-    let i = c .before .before .before .before .before .loop in
-    let f = c .before .before .fill-row in
-    let h = c .before .before .before .before .loop-test .taken in
+    let i = c .before .before .before .before .before .before .loop in
+    let f = c .before .before .before .fill-row in
+    let h = c .before .before .before .before .before .loop-test .taken in
     record {
       wide = i .inv .wide;
-      room = omega (arith, mul-pred (i .left) (2 * c .before .before .before .before .before .before .before .before .before .args .width) h, i .inv .room);
+      room = omega (arith, mul-pred (i .left) (2 * c .before .before .before .before .before .before .before .before .before .before .args .width) h, i .inv .room);
       long = f .kept .1 .1 .1 .1 .0 ∙ i .inv .long;
-      there = field-there _ _ _ _ _ h (i .inv .there) _ _ (f .ensures .next) refl;
-      goes = field-paint _ _ _ _ _ h (i .inv .there) _ _ (f .ensures .next) refl _ _ _ (f .ensures .pixels) ∙ i .inv .goes;
+      there = field-there _ _ _ _ _ h (i .inv .there) _ _ (f .ensures .next) (c .aligned .ensures);
+      goes = field-paint _ _ _ _ _ h (i .inv .there) _ _ (f .ensures .next) (c .aligned .ensures) _ _ _ (f .ensures .pixels) ∙ i .inv .goes;
     }
 
 same-length : tie.Need-same-length Inv-loop μ-loop
@@ -90,7 +90,7 @@ fill-field-spec =
     returns
     loop-holds
     fill-row-requires
-    add-pos
+    aligned-requires
     add-to
     add-to-2
     sub-left

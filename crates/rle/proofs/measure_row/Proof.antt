@@ -1,35 +1,54 @@
--- `rle::measure_row` meets its contract: what is left of the row, counted on top of what was counted, is the whole row. Assumes nothing.
+-- `rle::measure_row` meets its contract: what is left of the row, counted and kept behind what was counted and kept, is the whole row.
+-- Assumes nothing.
 use Prim.Native.Nat.{ℕ, _+_, _*_, _-_, _≤_, _<_}
-use mathlib.Core.Path.{_≡_, refl, sym, ap, _∙_}
-use mathlib.Core.List.{List}
+use native.Mathlib.Nat.{add-zero}
 use native.Mathlib.Omega.{arith}
+use mathlib.Core.Path.{_≡_, refl, sym, ap, _∙_, subst}
+use mathlib.Core.List.{List}
 use borrow.Author.Needs.{needs}
 use denote.Ref.{now}
 use lib.ListN.{length}
-use Rattle.outcome.specs.Outcome.{Res}
+use lib.Seq.{sets}
+use Rattle.outcome.specs.Outcome.{Res, listed, IsOk}
 use Rattle.grammar.specs.Rows.{Code, paints}
 use Rattle.rle.specs.Codes.{codeAt, rowAt}
-use Rattle.rle.specs.Answers.{code, AtMost, rowAnswer}
+use Rattle.rle.specs.Kept.{keptRow}
+use Rattle.rle.specs.Answers.{code, AtMost, rowAnswer, RowMeasured}
 use Rattle.rle.specs.declared.Counts.{Counts}
 use Rattle.rle.proofs.Laws.{paints-le, paints-pos}
-use Rattle.rle.proofs.Turns.{Coded, coded, uncoded, plusRow, row-whole, row-more, row-short, row-end, at-most-counted, at-most-le}
+use Rattle.rle.proofs.Turns.{Coded, coded, uncoded, plusRow, row-whole, row-more, row-short, row-end, ok-more, at-most-counted}
+use Rattle.rle.proofs.Kept.{keep-more, keep-end}
 use Rattle.rle.proofs.measure_row.Statement.{statement}
 use Rattle.rle.proofs.measure_row.Tie as tie
 use Rattle.rle.proofs.measure_row.Reads as reads
 use Rattle.rle.proofs.measure_row.Lts as lts
 
-pub record Inv (field : List ℕ) (width pos₀ pos left : ℕ) (counts : Counts) : Type 0 where
+pub record Inv (field : List ℕ) (width : ℕ) (kept₀ : List ℕ) (from pos₀ : ℕ) (kept : List ℕ) (pos left : ℕ) (counts : Counts) : Type 0 where
   pub few : AtMost pos counts
+  pub behind : from + counts .codes ≤ pos
+  pub long : length kept ≡ length kept₀
   pub goes : plusRow counts (rowAnswer left pos (rowAt field (length field) left pos)) ≡ rowAnswer width pos₀ (rowAt field (length field) width pos₀)
+  pub there : IsOk (rowAt field (length field) width pos₀) → IsOk (rowAt field (length field) left pos)
+  pub keeps : IsOk (rowAt field (length field) width pos₀)
+      → sets kept (from + counts .codes) (keptRow left (listed (rowAt field (length field) left pos)))
+      ≡ sets kept₀ from (keptRow width (listed (rowAt field (length field) width pos₀)))
 
 abbrev Inv-loop : tie.InvT-loop
-Inv-loop field width pos₀ left₀ counts₀ pos left counts = Inv field width pos₀ pos left counts
+Inv-loop field width kept₀ from pos₀ left₀ counts₀ kept pos left counts = Inv field width kept₀ from pos₀ kept pos left counts
 
 abbrev μ-loop : tie.MeasureT-loop
-μ-loop field width pos₀ left₀ counts₀ pos left counts = left
+μ-loop field width kept₀ from pos₀ left₀ counts₀ kept pos left counts = left
 
 loop-holds : tie.Need-loop-holds Inv-loop μ-loop
-loop-holds c = record { few = omega arith; goes = row-whole _ }
+loop-holds c =
+    record {
+      few = omega arith;
+      behind = omega (arith, c .before .before .pre);
+      long = refl;
+      goes = row-whole _;
+      there = λ i. i;
+      keeps = λ i. rw add-zero;
+    }
 
 read-code-requires : tie.Need-read-code-requires Inv-loop μ-loop
 read-code-requires c κs = search needs
@@ -38,47 +57,73 @@ enum-known-size : tie.Need-enum-known-size Inv-loop μ-loop
 enum-known-size c = search needs
 
 -- the code that a turn read
-got : (c : tie.After-known-told Inv-loop μ-loop) → Coded
-    (now (c .before .before .before .before .before .before .before .args .field))
-    (length (now (c .before .before .before .before .before .before .before .args .field)))
-    (c .before .before .before .before .before .loop .pos) (c .before .size .given .0 .0) (c .before .size .given .0 .1 .0)
-    (c .before .size .given .0 .1 .1 .0)
+got : (c : tie.After-known-told Inv-loop μ-loop) → Coded (now (c .before .before .before .before .before .before .before .before .args .field)) (length (now (c .before .before .before .before .before .before .before .before .args .field)))
+    (c .before .before .before .before .before .loop .pos) (c .before .size .given .0 .0) (c .before .size .given .0 .1 .0) (c .before .size .given .0 .1 .1 .0)
 got c = coded _ _ _ _ _ _ (sym (c .before .size .given .1) ∙ c .before .before .before .read-code .ensures)
 
+add-at : tie.Need-add-at Inv-loop μ-loop
+add-at c = omega (arith, got (c .before) .is .inside, c .before .before .before .before .before .before .loop .inv .behind)
+
+keep-requires : tie.Need-keep-requires Inv-loop μ-loop
+keep-requires c κs = search needs
+
 plus-counts-requires : tie.Need-plus-counts-requires Inv-loop μ-loop
-plus-counts-requires c κs = omega (arith, got c .is .inside, got c .is .one, c .before .before .before .before .before .loop .inv .few)
+plus-counts-requires c κs = omega (arith, got (c .before .before .before .before .before .before) .is .inside, got (c .before .before .before .before .before .before) .is .one, c .before .before .before .before .before .before .before .before .before .before .before .loop .inv .few)
 
 painted-requires : tie.Need-painted-requires Inv-loop μ-loop
 painted-requires c κs = search needs
 
 sub-left : tie.Need-sub-left Inv-loop μ-loop
-sub-left c = omega (arith, c .painted .ensures 0, paints-le (c .before .before .before .before .before .before .before .loop .left) (code 0 (c .before .before .before .size .given .0 .0) (c .before .before .before .size .given .0 .1 .0)))
+sub-left c = omega (arith, c .before .before .before .before .before .painted .ensures 0, paints-le (c .before .before .before .before .before .before .before .before .before .before .before .before .loop .left) (code 0 (c .before .before .before .before .before .before .before .before .size .given .0 .0) (c .before .before .before .before .before .before .before .before .size .given .0 .1 .0)))
 
 loop-less : tie.Need-loop-less Inv-loop μ-loop
 loop-less c =
-    let i = c .before .before .before .before .before .before .before .loop in
-    omega (arith, c .painted .ensures (i .pos), paints-pos _ _ (i .left) _ (got (c .before .before) .is) (omega arith))
+    let i = c .before .before .before .before .before .before .before .before .before .before .before .before .loop in
+    omega (arith, c .before .before .before .before .before .painted .ensures (i .pos), paints-pos _ _ (i .left) _ (got (c .before .before .before .before .before .before .before) .is) (omega arith))
 
 loop-again : tie.Need-loop-again Inv-loop μ-loop
 loop-again c =
-    let i = c .before .before .before .before .before .before .before .loop in
-    let g = got (c .before .before) in
+    let i = c .before .before .before .before .before .before .before .before .before .before .before .before .loop in
+    let l = c .before .before .before .before .before .before .before .before .before .before .before .loop-test .taken in
+    let g = got (c .before .before .before .before .before .before .before) in
+    let m = c .before .before .before .before .before .painted .ensures (i .pos) in
+    let b = c .plus-counts .ensures in
+    let n : c .plus-counts .result .codes ≡ i .counts .codes + 1 = ap (λ (a : Counts). a .codes) b in
+    let z : c .before .before .before .before .before .before .before .before .before .before .before .before .before .before .before .args .from + c .plus-counts .result .codes ≡ c .before .before .before .before .before .before .before .before .before .before .before .before .before .before .before .args .from + i .counts .codes + 1 = omega arith in
     record {
-      few = rw (g .goes, c .before .plus-counts .ensures) (at-most-counted (i .pos) _ 0 (code 0 0 0) (i .counts) (g .is .one) (i .inv .few));
-      goes = row-more _ _ _ _ (omega arith) _ _ _ _ _ _ g (c .painted .ensures (i .pos)) (c .before .plus-counts .ensures) ∙ i .inv .goes;
+      few = rw (g .goes, b) (at-most-counted (i .pos) _ 0 (code 0 0 0) (i .counts) (g .is .one) (i .inv .few));
+      behind = omega (arith, g .goes, g .is .one, i .inv .behind);
+      long = c .before .before .before .keep .kept .0 ∙ i .inv .long;
+      goes = row-more _ _ _ _ l _ _ _ _ _ _ g m b ∙ i .inv .goes;
+      there = λ o. ok-more _ _ _ _ l _ _ _ _ g m (i .inv .there o);
+      keeps = λ o. rw z (keep-more _ _ _ _ l _ _ _ _ g m (i .inv .there o) _ _ _ (c .before .before .before .keep .ensures) ∙ i .inv .keeps o);
     }
 
 enum-known-number : tie.Need-enum-known-number Inv-loop μ-loop
 enum-known-number c = search needs
 
+same-length : tie.Need-same-length Inv-loop μ-loop
+same-length c = c .before .before .before .before .before .loop .inv .long
+
 returns : tie.Need-returns Inv-loop μ-loop
 returns c =
     let i = c .before .before .before .before .before .loop in
     let n = row-short _ _ _ _ (c .before .before .before .before .loop-test .taken) _ (uncoded _ _ _ _ (sym (c .before .number .given .1) ∙ c .before .before .before .read-code .ensures)) in
-    sym (ap (λ (o : Res (List Code)). plusRow (i .counts) (rowAnswer (i .left) (i .pos) o)) n) ∙ i .inv .goes
+    record {
+      answer = sym (ap (λ (o : Res (List Code)). plusRow (i .counts) (rowAnswer (i .left) (i .pos) o)) n) ∙ i .inv .goes;
+      keeps = λ o. absurd (subst IsOk n (i .inv .there o));
+    }
+
+same-length-2 : tie.Need-same-length-2 Inv-loop μ-loop
+same-length-2 c = c .before .loop .inv .long
 
 returns-2 : tie.Need-returns-2 Inv-loop μ-loop
-returns-2 c = sym (row-end _ _ _ _ _ (omega arith)) ∙ c .before .loop .inv .goes
+returns-2 c =
+    let i = c .before .loop in
+    record {
+      answer = sym (row-end _ _ _ _ _ (omega arith)) ∙ i .inv .goes;
+      keeps = λ o. keep-end _ _ _ _ _ _ (omega arith) ∙ i .inv .keeps o;
+    }
 
 pub measure-row-spec : {M : Type 1} → statement M
 measure-row-spec =
@@ -89,11 +134,15 @@ measure-row-spec =
     loop-holds
     read-code-requires
     enum-known-size
-    plus-counts-requires
+    add-at
     painted-requires
+    keep-requires
+    plus-counts-requires
     sub-left
     loop-less
     loop-again
     enum-known-number
+    same-length
     returns
+    same-length-2
     returns-2)
