@@ -4,7 +4,7 @@ use Prim.Native.Nat.{ℕ, _*_}
 use mathlib.Core.List.{List, [], _∷_, _++_}
 use lib.ListN.{length, replicate}
 use Rattle.outcome.specs.Outcome.{Res, ok, refuse, listed}
-use Rattle.grammar.specs.Rows.{Code, colour, paints}
+use Rattle.grammar.specs.Rows.{colour, paints}
 use Rattle.rle.specs.Codes.{codeAt}
 use Rattle.rle.specs.Field.{decoded, paintField}
 use Rattle.rle.specs.Answers.{fieldCounts}

@@ -1,14 +1,11 @@
 -- Cards for what the grammar and the reader share, and the claim so does not guard: a code's run and colour, the fill, the clip,
 -- alignment, pixels and the number of codes. One test over the table. Assumes nothing.
-use Prim.Native.Nat.{ℕ, _+_}
+use Prim.Native.Nat.{ℕ}
 use mathlib.Core.Path.{_≡_, refl}
-use mathlib.Core.List.{List, [], _∷_, _++_, map}
+use mathlib.Core.List.{List, [], _∷_, map}
 use Rattle.grammar.specs.Bytes.{nibble, nibbles}
-use Rattle.grammar.specs.Rows.{Code, colour, paints, afterCodes, align}
+use Rattle.grammar.specs.Rows.{Code, code, colour, paints, afterCodes, align}
 use Rattle.grammar.specs.Pixels.{rowPixels, codesIn}
-
-abbrev code : ℕ → ℕ → ℕ → Code
-code p k v = record { place = p; size = k; value = v }
 
 -- of a code with `left` pixels to go: how many it paints, and their colour
 abbrev painted : ℕ → Code → List ℕ

@@ -2,11 +2,11 @@
 use Prim.Native.Nat.{ℕ, zero, suc, _+_, _-_, _*_, _^_, _≤_, _<_}
 use native.Mathlib.Nat.{pow-succ', eq-or-lt-of-le, le-of-suc-le-suc}
 use native.Mathlib.Omega.{arith, by-contra}
-use mathlib.Core.Path.{_≡_, refl, sym, ap, _∙_, subst}
+use mathlib.Core.Path.{_≡_, refl, sym, _∙_, subst}
 use mathlib.Core.Logic.{⊎-elim}
 use mathlib.Core.List.{List, [], _∷_}
 use lib.ListN.{length}
-use Rattle.grammar.specs.Bytes.{nibble, nibbles}
+use Rattle.grammar.specs.Bytes.{nibbles}
 use Rattle.grammar.specs.Rows.{Code, IsCode, paints, RowCodes, afterCodes, align, FieldRows}
 
 module _ (s : List ℕ) (p : ℕ) where

@@ -13,6 +13,9 @@ pub record Code : Type 0 where
   pub size : ℕ
   pub value : ℕ
 
+abbrev pub code : ℕ → ℕ → ℕ → Code
+code p k v = record { place = p; size = k; value = v }
+
 -- c stands in u, before byte e (FORMAT 5.2): 1 nibble makes 4-15, 2 make 16-63, 3 make 64-255, 4 make 0-1,023
 pub record IsCode (u : List ℕ) (e : ℕ) (c : Code) : Type 0 where
   pub one : 1 ≤ c .size

@@ -1,19 +1,22 @@
 -- What an answer says of its parts. Assumes nothing.
 use Prim.Native.Nat.{ℕ, _≤_, _<_}
 use native.Mathlib.Omega.{arith}
-use mathlib.Core.Path.{_≡_, refl}
+use mathlib.Core.Path.{_≡_, refl, sym, ap}
 use mathlib.Core.Bool.{Bool, true, false}
 use mathlib.Core.Logic.{_⊎_, inl, inr}
-use mathlib.Core.List.{List, [], _∷_}
+use mathlib.Core.List.{List, _∷_}
 use lib.Dec.{leb}
 use borrow.Author.Tests.{leb-true, leb-false}
-use Rattle.outcome.specs.Outcome.{Res, ok, refuse, andThen, consRes, IsOk}
+use Rattle.outcome.specs.Outcome.{Res, ok, refuse, check, andThen, consRes}
 
 pub ok-not-refuse : {A : Type 0} {P : Type 0} {n : ℕ} {a : A} → refuse n ≡ ok a → P
 ok-not-refuse e = absurd (let z : _≡_ {A = ℕ} 0 1 = cc in omega arith)
 
 pub ok-injective : {A : Type 0} {x y : A} → ok x ≡ ok y → x ≡ y
 ok-injective e = cc
+
+pub refuse-injective : {A : Type 0} {m n : ℕ} → _≡_ {A = Res A} (refuse m) (refuse n) → m ≡ n
+refuse-injective e = cc
 
 pub andThen-ok : {A B : Type 0} (r : Res A) (k : A → Res B) {y : B} → andThen r k ≡ ok y → (x : A) × (r ≡ ok x) × (k x ≡ ok y)
 andThen-ok (ok a) k e = (a, refl, e)
@@ -22,6 +25,19 @@ andThen-ok (refuse n) k e = ok-not-refuse e
 pub consRes-ok : {A : Type 0} (a : A) (r : Res (List A)) {l : List A} → consRes a r ≡ ok l → (t : List A) × (r ≡ ok t) × (a ∷ t ≡ l)
 consRes-ok a (ok t) e = (t, refl, ok-injective e)
 consRes-ok a (refuse n) e = ok-not-refuse e
+
+-- and of a refusal
+pub andThen-refuse : {A B : Type 0} (r : Res A) (k : A → Res B) {n : ℕ} → andThen r k ≡ refuse n → (r ≡ refuse n) ⊎ ((x : A) × (r ≡ ok x) × (k x ≡ refuse n))
+andThen-refuse (ok a) k e = inr (a, refl, e)
+andThen-refuse (refuse m) k e = inl (ap refuse (refuse-injective e))
+
+pub consRes-refuse : {A : Type 0} (a : A) (r : Res (List A)) {n : ℕ} → consRes a r ≡ refuse n → r ≡ refuse n
+consRes-refuse a (ok t) e = ok-not-refuse (sym e)
+consRes-refuse a (refuse m) e = ap refuse (refuse-injective e)
+
+pub check-refuse : {A : Type 0} (t : Bool) (m : ℕ) (r : Res A) {n : ℕ} → check t m r ≡ refuse n → (n ≡ m) ⊎ (r ≡ refuse n)
+check-refuse true m r e = inr e
+check-refuse false m r e = inl (sym (refuse-injective e))
 
 -- a test of an order, decided
 pub le-or-lt : (a b : ℕ) → (a ≤ b) ⊎ (b < a)

@@ -1,14 +1,14 @@
 -- A list that is found is the one that is listed, and one turn of finding it, with no count of turns in it. Assumes nothing.
-use Prim.Native.Nat.{ℕ, zero, suc, _+_, _≤_, _<_}
+use Prim.Native.Nat.{ℕ, zero, suc, _≤_, _<_}
 use native.Mathlib.Omega.{arith}
-use mathlib.Core.Path.{_≡_, refl, ap, subst}
+use mathlib.Core.Path.{_≡_, refl, sym, ap, subst}
 use mathlib.Core.Bool.{Bool, true, false, cond}
-use mathlib.Core.Logic.{_↔_}
+use mathlib.Core.Logic.{_↔_, ⊎-elim}
 use mathlib.Core.List.{List, [], _∷_}
 use lib.ListN.{length}
 use Rattle.outcome.specs.Outcome.{Res, ok, refuse, andThen, consRes}
 use Rattle.outcome.specs.Lists.{listFuel, listFrom, Listed}
-use Rattle.outcome.proofs.Laws.{ok-not-refuse, ok-injective, andThen-ok, consRes-ok}
+use Rattle.outcome.proofs.Laws.{ok-not-refuse, ok-injective, andThen-ok, consRes-ok, andThen-refuse, consRes-refuse}
 
 module _ {S A : Type 0} (stop : S → Bool) (item : S → Res A) (next : S → A → S) where
   fuel-sound : (f : ℕ) (s : S) (l : List A) → listFuel stop item next f s ≡ ok l → Listed stop item next s l
@@ -56,6 +56,25 @@ module _ {S A : Type 0} (stop : S → Bool) (item : S → Res A) (next : S → A
         go i true r p q = refl
         go i false (refuse n) p q = refl
         go i false (ok a) p q = let z = falls s a p q in ap (consRes a) (i a (omega arith) (omega arith))
+
+    -- the list is refused for what an item is refused for
+    fuel-refuses : (P : ℕ → Type 0) → ((s : S) (n : ℕ) → item s ≡ refuse n → P n) → (f : ℕ) (s : S) (n : ℕ) → left s < f
+        → listFuel stop item next f s ≡ refuse n → P n
+    unfolding listFuel
+    fuel-refuses P h zero s n b e = absurd (omega arith)
+    fuel-refuses P h (suc f) s n b e = go (λ x d g. fuel-refuses P h f (next s x) n d g) (stop s) refl e
+      where
+        go : ((x : A) → left (next s x) < f → listFuel stop item next f (next s x) ≡ refuse n → P n)
+            → (t : Bool) → stop s ≡ t → cond t (ok []) (andThen (item s) (λ a. consRes a (listFuel stop item next f (next s a)))) ≡ refuse n → P n
+        go i true q g = ok-not-refuse (sym g)
+        go i false q g =
+            ⊎-elim (λ r. h s n r)
+            (λ r. let z = falls s (r .0) q (r .1) in i (r .0) (omega arith) (consRes-refuse (r .0) (listFuel stop item next f (next s (r .0))) (r .2)))
+            (andThen-refuse (item s) (λ a. consRes a (listFuel stop item next f (next s a))) g)
+
+    pub list-refuses : (P : ℕ → Type 0) → ((s : S) (n : ℕ) → item s ≡ refuse n → P n) → (s : S) (n : ℕ) → listFrom stop item next left s ≡ refuse n → P n
+    unfolding listFrom
+    list-refuses P h s n e = fuel-refuses P h (suc (left s)) s n (omega arith) e
 
     -- one turn
     pub list-step : (s : S)

@@ -8,12 +8,12 @@ use mathlib.Core.List.{List, [], _∷_, _++_, append-nil}
 use lib.ListN.{length, set, replicate, take, drop, getD, length-append, length-replicate, drop-of-length-le}
 use lib.Seq.{sets, sets-eq, length-sets, length-take-le, take-at, drop-cons, getD-take}
 use Rattle.outcome.specs.Outcome.{Res, ok, refuse, consRes, listed, IsOk}
-use Rattle.grammar.specs.Rows.{Code, colour, paints, RowCodes, afterCodes, align, FieldRows}
+use Rattle.grammar.specs.Rows.{Code, code, colour, paints, RowCodes, afterCodes, align, FieldRows}
 use Rattle.grammar.specs.Pixels.{rowPixels}
 use Rattle.rle.specs.Codes.{rowAt, fieldAt}
 use Rattle.rle.specs.Field.{paintField}
 use Rattle.rle.specs.Kept.{widest, keptRun, keptRow, keptAll, leftAfter, placeAfter, paintKept, KeptFits}
-use Rattle.rle.specs.Answers.{code, rowCounts, fieldCounts, fieldAnswer}
+use Rattle.rle.specs.Answers.{rowCounts, fieldCounts, fieldAnswer}
 use Rattle.rle.specs.declared.Cursor.{Cursor}
 use Rattle.rle.specs.declared.Counts.{Counts}
 use Rattle.rle.specs.declared.FieldAnswer.the-variants as field-answer

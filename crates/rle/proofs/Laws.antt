@@ -1,16 +1,15 @@
 -- The definitions answer a list exactly where the grammar passes it, and one turn of each. Assumes nothing.
-use Prim.Native.Nat.{ℕ, zero, suc, _+_, _-_, _*_, _/_, _%_, _^_, _≤_, _<_, min}
+use Prim.Native.Nat.{ℕ, zero, suc, _+_, _-_, _*_, _/_, _^_, _≤_, _<_, min}
 use native.Mathlib.Nat.{pow-succ', one-le-pow, eq-or-lt-of-le}
-use native.Mathlib.Numerals.{add-one}
 use native.Mathlib.Omega.{arith}
 use mathlib.Core.Path.{_≡_, refl, sym, ap, _∙_, subst}
 use mathlib.Core.Bool.{Bool, true, false, cond, _&&_}
 use mathlib.Core.Logic.{_⊎_, inl, inr, ⊎-elim, _↔_}
 use mathlib.Core.List.{List, [], _∷_}
 use lib.ListN.{length}
-use lib.Dec.{leb, ltb, eqb}
+use lib.Dec.{ltb, eqb}
 use borrow.Author.Tests.{le-leb, lt-leb, lt-ltb, le-ltb, eq-eqb, ne-eqb, eqb-true, eqb-false}
-use Rattle.outcome.specs.Outcome.{Res, ok, refuse, check, andThen, consRes, field-ran-out}
+use Rattle.outcome.specs.Outcome.{ok, andThen, consRes}
 use Rattle.outcome.specs.Lists.{Listed}
 use Rattle.outcome.proofs.Laws.{ok-not-refuse, ok-injective, andThen-ok, consRes-ok, le-or-lt}
 use Rattle.outcome.proofs.Lists.{list-iff, list-step}
@@ -129,7 +128,7 @@ pos-eqb n = (λ q. let f = eqb-false n 0 q in go n f, λ h. ne-eqb n 0 (omega ar
     go (suc m) f = omega arith
 
 module _ (u : List ℕ) (e : ℕ) where
-  row-falls : (q : Standing) (c : Code) → rowDone q ≡ false → rowCode u e q ≡ ok c → rowNext q c .left < q .left
+  pub row-falls : (q : Standing) (c : Code) → rowDone q ≡ false → rowCode u e q ≡ ok c → rowNext q c .left < q .left
   row-falls q c d i =
       let l : 0 < q .left = pos-eqb (q .left) .0 d in
       omega (arith, paints-pos u e (q .left) c (code-sound u e (q .place) c i .1) l)

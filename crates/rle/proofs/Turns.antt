@@ -1,5 +1,5 @@
 -- One turn of each loop, over plain variables, and what each answer says of the definitions. Assumes nothing.
-use Prim.Native.Nat.{ℕ, zero, suc, zero-le, _+_, _-_, _*_, _/_, _%_, _^_, _≤_, _<_, min}
+use Prim.Native.Nat.{ℕ, zero, suc, zero-le, _+_, _-_, _*_, _/_, _%_, _^_, _≤_, _<_}
 use native.Mathlib.Nat.{pow-succ', suc-mul, zero-mul, mul-comm, mul-le-mul-right, le-mul-of-pos-right, lt-of-le-of-lt, add-mul, mul-assoc, le-div-iff-mul-le}
 use native.Mathlib.Numerals.{add-one}
 use native.Mathlib.Omega.{arith, not-le}
@@ -8,18 +8,18 @@ use mathlib.Core.Bool.{true, false}
 use mathlib.Core.Logic.{⊎-elim, _↔_}
 use mathlib.Core.List.{List, [], _∷_, _++_}
 use lib.ListN.{length, set, replicate, length-replicate}
-use lib.Seq.{sets, length-sets}
+use lib.Seq.{sets}
 use lib.Dec.{leb}
 use borrow.Author.Tests.{le-leb, lt-leb}
 use Rattle.outcome.proofs.Laws.{le-or-lt}
-use Rattle.outcome.specs.Outcome.{Res, ok, refuse, check, andThen, consRes, listed, IsOk, short-pixels, field-ran-out}
+use Rattle.outcome.specs.Outcome.{Res, ok, refuse, andThen, consRes, listed, IsOk, short-pixels, field-ran-out}
 use Rattle.grammar.specs.Bytes.{nibble, nibbles}
-use Rattle.grammar.specs.Rows.{Code, IsCode, colour, paints, RowCodes, afterCodes, align, FieldRows}
+use Rattle.grammar.specs.Rows.{Code, code, IsCode, paints, RowCodes, afterCodes, align}
 use Rattle.grammar.specs.Pixels.{rowPixels}
 use Rattle.rle.specs.Codes.{made, codeFrom, codeAt, rowAt, fieldAt}
 use Rattle.rle.specs.Field.{rowsFrom, paintField, decoded}
 use Rattle.rle.specs.Kept.{keptRow, keptAll}
-use Rattle.rle.specs.Answers.{code, nothing, plus, counted, AtMost, rowCounts, fieldCounts, codeAnswer, rowAnswer, fieldAnswer, measured, RowsDecoded, Decoded}
+use Rattle.rle.specs.Answers.{nothing, plus, counted, AtMost, rowCounts, fieldCounts, codeAnswer, rowAnswer, fieldAnswer, RowsDecoded, Decoded}
 use Rattle.rle.specs.declared.Cursor.{Cursor}
 use Rattle.rle.specs.declared.Counts.{Counts}
 use Rattle.rle.specs.declared.CodeAnswer.the-variants as code-answer
@@ -27,7 +27,7 @@ use Rattle.rle.specs.declared.RowAnswer.{RowAnswer}
 use Rattle.rle.specs.declared.RowAnswer.the-variants as row-answer
 use Rattle.rle.specs.declared.FieldAnswer.{FieldAnswer}
 use Rattle.rle.specs.declared.FieldAnswer.the-variants as field-answer
-use Rattle.rle.proofs.Laws.{code-sound, row-iff, row-step, row-none, field-iff, paints-le}
+use Rattle.rle.proofs.Laws.{code-sound, row-iff, row-step, row-none}
 
 -- ---- Nibbles of a code, at every length
 

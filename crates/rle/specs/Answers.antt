@@ -1,6 +1,6 @@
 -- What each answer of the code means: the listed codes, counted, or the number of the refusal; and what the functions that write leave.
 -- Assumes nothing: these are definitions.
-use Prim.Native.Nat.{ℕ, _+_, _-_, _*_, _≤_, _<_, _^_}
+use Prim.Native.Nat.{ℕ, _+_, _-_, _*_, _≤_}
 use mathlib.Core.Path.{_≡_}
 use mathlib.Core.List.{List, [], _∷_}
 use lib.ListN.{length}
@@ -19,9 +19,6 @@ use Rattle.rle.specs.declared.RowAnswer.{RowAnswer}
 use Rattle.rle.specs.declared.RowAnswer.the-variants as row-answer
 use Rattle.rle.specs.declared.FieldAnswer.{FieldAnswer}
 use Rattle.rle.specs.declared.FieldAnswer.the-variants as field-answer
-
-abbrev pub code : ℕ → ℕ → ℕ → Code
-code p k v = record { place = p; size = k; value = v }
 
 -- ---- What rows count (FORMAT 5.9). Only this part names the fields of `Counts`
 

@@ -2,16 +2,16 @@
 -- A field is the bytes of u before place e. Assumes nothing: these are definitions.
 use Prim.Native.Nat.{ℕ, zero, suc, _+_, _-_, _*_, _^_}
 use mathlib.Core.Bool.{Bool, cond}
-use mathlib.Core.List.{List, [], _∷_}
+use mathlib.Core.List.{List, []}
 use lib.Dec.{leb, eqb}
-use Rattle.outcome.specs.Outcome.{Res, ok, refuse, check, andThen, consRes, field-ran-out}
+use Rattle.outcome.specs.Outcome.{Res, ok, check, andThen, consRes, field-ran-out}
 use Rattle.outcome.specs.Lists.{listFrom}
 use Rattle.grammar.specs.Bytes.{nibbles}
-use Rattle.grammar.specs.Rows.{Code, paints, afterCodes, align}
+use Rattle.grammar.specs.Rows.{Code, code, paints, afterCodes, align}
 
 -- the code of k nibbles at half byte p
 abbrev pub made : List ℕ → ℕ → ℕ → Code
-made u p k = record { place = p; size = k; value = nibbles u p k }
+made u p k = code p k (nibbles u p k)
 
 -- the code at p, where it has k nibbles or up to j more: the first length k at which the nibbles make 4^k or more, or the last (FORMAT 5.2)
 unfoldable pub codeFrom : List ℕ → ℕ → ℕ → ℕ → ℕ → Res Code

@@ -11,8 +11,8 @@ ghost use Rattle.grammar.specs.Bytes.{nibble};
 ghost use Rattle.rle.specs.Codes.{codeAt, rowAt, fieldAt};
 ghost use Rattle.rle.specs.Field.{paintField};
 ghost use Rattle.rle.specs.Kept.{keptRun, leftAfter, placeAfter, paintKept, KeptFits};
-ghost use Rattle.grammar.specs.Rows.{paints, align};
-ghost use Rattle.rle.specs.Answers.{code, plus, AtMost, codeAnswer, measured, RowMeasured, FieldMeasured, RowFilled, RowsDecoded, Decoded};
+ghost use Rattle.grammar.specs.Rows.{code, paints, align};
+ghost use Rattle.rle.specs.Answers.{plus, AtMost, codeAnswer, measured, RowMeasured, FieldMeasured, RowFilled, RowsDecoded, Decoded};
 
 // A half-byte count over a field's bytes.
 pub struct Cursor {
@@ -38,7 +38,7 @@ pub enum CodeAnswer {
 }
 
 // What measuring a row finds.
-pub enum RowAnswer {
+enum RowAnswer {
     // What its codes count, and the place after the last.
     Row { counts: Counts, next: Cursor },
     Refused(u8),
@@ -61,7 +61,8 @@ fn nibble_at(field: &[u8], p: usize) -> usize
     if p % 2 == 0 { b / 16 } else { b % 16 }
 }
 
-// The code at a place.
+// The code at a place: the first number of nibbles that makes a number large enough for it, four at most (FORMAT 5.2).
+// Ruled out: a place past the end taken for a fill; a longer code where a shorter one stands.
 pub fn read_code(field: &[u8], c: Cursor) -> CodeAnswer
     ensures { λ r. ⌜ r ≡ codeAnswer (codeAt (now (field .entry)) (length (now (field .entry))) (c .pos)) ⌝ }
 {
@@ -236,6 +237,7 @@ fn measure_kept(field: &[u8], width: usize, rows: usize, kept: &mut [u16]) -> Fi
 }
 
 // The codes of a field of so many rows, counted.
+// Ruled out: a count of pixels or of rows; rows accepted that the field has no bytes for.
 pub fn measure_field(field: &[u8], width: usize, rows: usize) -> FieldAnswer
     ensures { λ r. ⌜ r ≡ measured (now (field .entry)) width rows ⌝ }
 {
@@ -421,7 +423,7 @@ fn decode_rows(
 }
 
 // The rows start_row, start_row + 2, .. below height of a map of that width and height. On a refusal the map is as found.
-// Ruled out: rows painted before the field is known to be whole; a row that starts inside a byte.
+// Ruled out: rows painted before the field is known to be whole; a map left as found where the field is accepted.
 pub fn decode_rle_field(
     field: &[u8],
     width: usize,

@@ -229,10 +229,25 @@ fn maps() {
     );
 }
 
+// Rows too wide for a run to be kept from measuring to filling.
+fn wide() {
+    let mut map = [FOUND; 60000];
+    io::write_all(STDOUT_FILENO, b"width 20000");
+    decoded_front(
+        &[0x03, 0xFF, 0x00, 0x02, 0x50, 0x00, 0x30],
+        20000,
+        3,
+        0,
+        &mut map,
+        60000,
+    );
+}
+
 fn main() {
     codes();
     rows();
     widths();
     ends();
     maps();
+    wide();
 }

@@ -1,15 +1,10 @@
 -- `rle::decode_rle_field` meets its contract: the map is long enough or it is refused. Assumes nothing.
 use mathlib.Core.Path.{sym, _∙_}
 use borrow.Author.Tests.{leb-true}
-use native.Mathlib.Omega.{arith}
 use borrow.Author.Needs.{needs}
 use Rattle.rle.proofs.Turns.{decoded-short}
 use Rattle.rle.proofs.decode_rle_field.Statement.{statement}
 use Rattle.rle.proofs.decode_rle_field.Tie as tie
-use Rattle.rle.proofs.decode_rle_field.Reads as reads
-use Rattle.rle.proofs.decode_rle_field.Lts as lts
-use Rattle.rle.proofs.decode_rows.Reads as decode-rows-reads
-use Rattle.rle.proofs.holds.Reads as holds-reads
 
 holds-requires : tie.Need-holds-requires
 holds-requires c κs = search needs

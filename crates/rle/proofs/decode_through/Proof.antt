@@ -1,13 +1,10 @@
 -- `rle::decode_through` meets its contract: rows painted from what was kept, rows read again, or a refusal before any store. Assumes nothing.
-use native.Mathlib.Omega.{arith}
-use mathlib.Core.Path.{_≡_, refl, sym, ap, _∙_}
+use mathlib.Core.Path.{sym, _∙_}
 use borrow.Author.Needs.{needs}
 use Rattle.rle.proofs.Turns.{fielded, unfielded, refused-kept}
 use Rattle.rle.proofs.Kept.{kept-is, kept-room, kept-pixels}
 use Rattle.rle.proofs.decode_through.Statement.{statement}
 use Rattle.rle.proofs.decode_through.Tie as tie
-use Rattle.rle.proofs.decode_through.Reads as reads
-use Rattle.rle.proofs.decode_through.Lts as lts
 
 measure-kept-requires : tie.Need-measure-kept-requires
 measure-kept-requires c κs = search needs

@@ -1,9 +1,8 @@
 -- `rle::fill_field` meets its contract: the rows left, painted from their place on, are all rows. Assumes nothing.
 use Prim.Native.Nat.{ℕ, _+_, _*_, _-_, _≤_, _<_}
-use mathlib.Core.Path.{_≡_, refl, sym, ap, _∙_}
+use mathlib.Core.Path.{_≡_, refl, _∙_}
 use mathlib.Core.List.{List}
 use native.Mathlib.Omega.{arith}
-use borrow.Author.Needs.{needs}
 use denote.Ref.{now}
 use lib.ListN.{length}
 use Rattle.outcome.specs.Outcome.{IsOk, listed}
@@ -12,8 +11,6 @@ use Rattle.rle.specs.Field.{paintField}
 use Rattle.rle.proofs.Turns.{mul-pred, row-there, row-goes-inside, field-there, field-paint, field-paint-end, blank-kept}
 use Rattle.rle.proofs.fill_field.Statement.{statement}
 use Rattle.rle.proofs.fill_field.Tie as tie
-use Rattle.rle.proofs.fill_field.Reads as reads
-use Rattle.rle.proofs.fill_field.Lts as lts
 
 pub record Inv (field : List ℕ) (width rows start : ℕ) (pixels₀ pixels : List ℕ) (pos left to : ℕ) : Type 0 where
   pub wide : 0 < width

@@ -1,7 +1,7 @@
 -- `rle::fill_kept` meets its contract: the codes left, painted from their place on, are all codes. Assumes nothing.
 use Prim.Native.Nat.{ℕ, _+_, _-_, _/_, _≤_}
 use native.Mathlib.Omega.{arith}
-use mathlib.Core.Path.{_≡_, refl, sym, ap, _∙_}
+use mathlib.Core.Path.{_≡_, refl, _∙_}
 use mathlib.Core.List.{List}
 use borrow.Author.Needs.{needs}
 use denote.Ref.{now}
@@ -10,8 +10,6 @@ use Rattle.rle.specs.Kept.{paintKept, KeptFits}
 use Rattle.rle.proofs.Kept.{fits-now, fits-more, paints-more, paints-end}
 use Rattle.rle.proofs.fill_kept.Statement.{statement}
 use Rattle.rle.proofs.fill_kept.Tie as tie
-use Rattle.rle.proofs.fill_kept.Reads as reads
-use Rattle.rle.proofs.fill_kept.Lts as lts
 
 pub record Inv (kept : List ℕ) (count width start : ℕ) (pixels₀ pixels : List ℕ) (k left to : ℕ) : Type 0 where
   pub long : length pixels ≡ length pixels₀

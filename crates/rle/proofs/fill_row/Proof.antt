@@ -1,6 +1,6 @@
 -- `rle::fill_row` meets its contract: what is left of the row, painted from its place on, is the whole row. Assumes nothing.
-use Prim.Native.Nat.{ℕ, suc, _+_, _*_, _-_, _%_, _≤_, _<_}
-use mathlib.Core.Path.{_≡_, refl, sym, ap, _∙_, subst}
+use Prim.Native.Nat.{ℕ, _+_, _-_}
+use mathlib.Core.Path.{_≡_, refl, sym, _∙_, subst}
 use mathlib.Core.List.{List}
 use Rattle.outcome.specs.Outcome.{IsOk, listed}
 use native.Mathlib.Omega.{arith}
@@ -8,19 +8,13 @@ use borrow.Author.Needs.{needs}
 use denote.Ref.{now}
 use lib.ListN.{length}
 use lib.Seq.{sets}
-use Rattle.grammar.specs.Rows.{Code, paints, afterCodes}
+use Rattle.grammar.specs.Rows.{code, afterCodes}
 use Rattle.grammar.specs.Pixels.{rowPixels}
-use Rattle.rle.specs.Codes.{codeAt, rowAt}
-use Rattle.rle.specs.Answers.{code, RowFilled}
+use Rattle.rle.specs.Codes.{rowAt}
 use Rattle.rle.proofs.Laws.{paints-le, paints-pos}
 use Rattle.rle.proofs.Turns.{Coded, coded, uncoded, row-short, ok-more, after-more, paint-more, paint-end, after-end}
 use Rattle.rle.proofs.fill_row.Statement.{statement}
 use Rattle.rle.proofs.fill_row.Tie as tie
-use Rattle.rle.proofs.fill_row.Reads as reads
-use Rattle.rle.proofs.fill_row.Lts as lts
-use Rattle.rle.proofs.fill_run.Reads as fill-run-reads
-use Rattle.rle.proofs.painted.Reads as painted-reads
-use Rattle.rle.proofs.read_code.Reads as read-code-reads
 
 pub record Inv (field : List ℕ) (width start : ℕ) (pixels₀ : List ℕ) (pos₀ : ℕ) (pixels : List ℕ) (pos left to : ℕ) : Type 0 where
   pub fits : to + left ≡ start + width

@@ -1,18 +1,14 @@
 -- `rle::fill_run` meets its contract: what is left of the run, stored from its place on, is the whole run. Assumes nothing.
-use Prim.Native.Nat.{ℕ, suc, _+_, _*_, _-_, _≤_, _<_}
-use mathlib.Core.Path.{_≡_, refl, sym, ap, _∙_}
+use Prim.Native.Nat.{ℕ, _+_, _-_, _≤_}
+use mathlib.Core.Path.{_≡_, refl, _∙_}
 use mathlib.Core.List.{List}
 use native.Mathlib.Omega.{arith}
-use borrow.Author.Needs.{needs}
-use denote.Ref.{now}
 use lib.ListN.{length, replicate, length-set}
 use lib.Seq.{sets}
 use native.Mathlib.Nat.{add-zero, sub-zero}
 use Rattle.rle.proofs.Turns.{run-more}
 use Rattle.rle.proofs.fill_run.Statement.{statement}
 use Rattle.rle.proofs.fill_run.Tie as tie
-use Rattle.rle.proofs.fill_run.Reads as reads
-use Rattle.rle.proofs.fill_run.Lts as lts
 
 pub record Inv (pixels₀ : List ℕ) (start count colour : ℕ) (pixels : List ℕ) (i : ℕ) : Type 0 where
   pub below : i ≤ count

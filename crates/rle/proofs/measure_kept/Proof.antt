@@ -1,5 +1,5 @@
 -- `rle::measure_kept` meets its contract: the rows left, counted and kept behind what was counted and kept, are all rows. Assumes nothing.
-use Prim.Native.Nat.{ℕ, _+_, _*_, _-_, _≤_, _<_}
+use Prim.Native.Nat.{ℕ, _-_, _<_}
 use native.Mathlib.Omega.{arith}
 use mathlib.Core.Path.{_≡_, refl, sym, ap, _∙_, subst}
 use mathlib.Core.List.{List}
@@ -8,17 +8,15 @@ use denote.Ref.{now}
 use lib.ListN.{length}
 use lib.Seq.{sets}
 use Rattle.outcome.specs.Outcome.{Res, listed, IsOk}
-use Rattle.grammar.specs.Rows.{Code, align}
+use Rattle.grammar.specs.Rows.{Code}
 use Rattle.rle.specs.Codes.{fieldAt}
 use Rattle.rle.specs.Kept.{keptAll}
-use Rattle.rle.specs.Answers.{AtMost, fieldAnswer, measured, FieldMeasured}
+use Rattle.rle.specs.Answers.{AtMost, fieldAnswer, measured}
 use Rattle.rle.specs.declared.Counts.{Counts}
 use Rattle.rle.proofs.Turns.{Rowed, rowed, unrowed, plusField, field-whole, field-more, field-short, field-end, row-there, rows-there, blank-counts, at-most-le, at-most-align}
 use Rattle.rle.proofs.Kept.{keep-rows, keep-rows-end, blank-keeps}
 use Rattle.rle.proofs.measure_kept.Statement.{statement}
 use Rattle.rle.proofs.measure_kept.Tie as tie
-use Rattle.rle.proofs.measure_kept.Reads as reads
-use Rattle.rle.proofs.measure_kept.Lts as lts
 
 pub record Inv (field : List ℕ) (width rows : ℕ) (kept₀ kept : List ℕ) (counts : Counts) (pos left : ℕ) : Type 0 where
   pub wide : 0 < width

@@ -1,6 +1,6 @@
 -- `rle::measure_row` meets its contract: what is left of the row, counted and kept behind what was counted and kept, is the whole row.
 -- Assumes nothing.
-use Prim.Native.Nat.{ℕ, _+_, _*_, _-_, _≤_, _<_}
+use Prim.Native.Nat.{ℕ, _+_, _-_, _≤_}
 use native.Mathlib.Nat.{add-zero}
 use native.Mathlib.Omega.{arith}
 use mathlib.Core.Path.{_≡_, refl, sym, ap, _∙_, subst}
@@ -10,18 +10,16 @@ use denote.Ref.{now}
 use lib.ListN.{length}
 use lib.Seq.{sets}
 use Rattle.outcome.specs.Outcome.{Res, listed, IsOk}
-use Rattle.grammar.specs.Rows.{Code, paints}
-use Rattle.rle.specs.Codes.{codeAt, rowAt}
+use Rattle.grammar.specs.Rows.{Code, code}
+use Rattle.rle.specs.Codes.{rowAt}
 use Rattle.rle.specs.Kept.{keptRow}
-use Rattle.rle.specs.Answers.{code, AtMost, rowAnswer, RowMeasured}
+use Rattle.rle.specs.Answers.{AtMost, rowAnswer}
 use Rattle.rle.specs.declared.Counts.{Counts}
 use Rattle.rle.proofs.Laws.{paints-le, paints-pos}
 use Rattle.rle.proofs.Turns.{Coded, coded, uncoded, plusRow, row-whole, row-more, row-short, row-end, ok-more, at-most-counted}
 use Rattle.rle.proofs.Kept.{keep-more, keep-end}
 use Rattle.rle.proofs.measure_row.Statement.{statement}
 use Rattle.rle.proofs.measure_row.Tie as tie
-use Rattle.rle.proofs.measure_row.Reads as reads
-use Rattle.rle.proofs.measure_row.Lts as lts
 
 pub record Inv (field : List ℕ) (width : ℕ) (kept₀ : List ℕ) (from pos₀ : ℕ) (kept : List ℕ) (pos left : ℕ) (counts : Counts) : Type 0 where
   pub few : AtMost pos counts

@@ -1,3 +1,4 @@
+-- `rle::nibble_at` meets its contract. Assumes nothing.
 use borrow.Author.Needs.{needs}
 use borrow.Author.Tests.{eq-eqb, ne-eqb}
 use native.Mathlib.Omega.{arith}
@@ -5,8 +6,6 @@ use Prim.Native.Nat.{_/_}
 use Rattle.grammar.specs.Bytes.{nibble}
 use Rattle.rle.proofs.nibble_at.Statement.{statement}
 use Rattle.rle.proofs.nibble_at.Tie as tie
-use Rattle.rle.proofs.nibble_at.Reads as reads
-use Rattle.rle.proofs.nibble_at.Lts as lts
 
 shared-slice-read-b : tie.Need-shared-slice-read-b
 shared-slice-read-b c = search needs

@@ -1,11 +1,9 @@
+-- `rle::painted` meets its contract. Assumes nothing.
 use borrow.Author.Needs.{needs}
 use borrow.Author.Tests.{eq-eqb, ne-eqb, lt-ltb, le-ltb}
 use Rattle.grammar.specs.Rows.{paints}
 use Rattle.rle.proofs.painted.Statement.{statement}
 use Rattle.rle.proofs.painted.Tie as tie
-use Rattle.rle.proofs.painted.Reads as reads
-use Rattle.rle.proofs.painted.Lts as lts
-use Rattle.rle.proofs.lesser.Reads as lesser-reads
 
 lesser-requires : tie.Need-lesser-requires
 lesser-requires c κs = search needs

@@ -1,21 +1,19 @@
-use Prim.Native.Nat.{ℕ, suc, _+_, _*_, _-_, _^_, _≤_, _<_}
+-- `rle::read_code` meets its contract: with the lengths tried so far too short, the code found from the next length on is the code. Assumes nothing.
+use Prim.Native.Nat.{ℕ, _+_, _*_, _-_, _^_, _≤_, _<_}
 use mathlib.Core.Path.{_≡_, refl, sym, ap, _∙_}
 use native.Mathlib.Omega.{arith}
 use lib.ListN.{length}
 use denote.Ref.{now}
-use Rattle.outcome.specs.Outcome.{ok, refuse, field-ran-out}
+use Rattle.outcome.specs.Outcome.{ok}
 use Rattle.rle.specs.declared.CodeAnswer.the-variants.{Got}
 use mathlib.Core.List.{List}
-use Rattle.grammar.specs.Bytes.{nibble, nibbles}
+use Rattle.grammar.specs.Bytes.{nibbles}
 use Rattle.rle.specs.Codes.{codeFrom, codeAt, made}
 use Rattle.rle.specs.Answers.{codeAnswer}
 use Rattle.rle.proofs.Laws.{nibble-lt}
 use Rattle.rle.proofs.Turns.{nibbles-step, pow-step, pow-most, code-short, code-hit, code-last, code-next}
 use Rattle.rle.proofs.read_code.Statement.{statement}
 use Rattle.rle.proofs.read_code.Tie as tie
-use Rattle.rle.proofs.read_code.Reads as reads
-use Rattle.rle.proofs.read_code.Lts as lts
-use Rattle.rle.proofs.nibble_at.Reads as nibble-at-reads
 
 pub record Inv (field : List ℕ) (room at value size least : ℕ) : Type 0 where
   pub few : size ≤ 3

@@ -4,9 +4,6 @@ use lib.Seq.{length-take-le}
 use borrow.Author.Needs.{needs}
 use Rattle.rle_rows.proofs.decoded_front.Statement.{statement}
 use Rattle.rle_rows.proofs.decoded_front.Tie as tie
-use Rattle.rle_rows.proofs.decoded_front.Reads as reads
-use Rattle.rle_rows.proofs.decoded_front.Lts as lts
-use Rattle.rle_rows.proofs.decoded.Reads as decoded-reads
 
 slice-relend-prefix-decoded : tie.Need-slice-relend-prefix-decoded
 slice-relend-prefix-decoded c = search needs
