@@ -11,6 +11,10 @@ use lib.Dec.{eqb}
 abbrev pub byte : List ℕ → ℕ → ℕ
 byte s i = getD s i 0
 
+-- the word at place i, high byte first
+unfoldable pub word : List ℕ → ℕ → ℕ
+word s i = byte s i * 256 + byte s (i + 1)
+
 -- the nibble at half-byte place p: of a byte the high half stands first
 unfoldable pub nibble : List ℕ → ℕ → ℕ
 nibble s p = cond (eqb (p % 2) 0) (byte s (p / 2) / 16) (byte s (p / 2)) % 16

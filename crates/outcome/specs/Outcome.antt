@@ -9,8 +9,14 @@ pub data Res (A : Type 0) : Type 0 where
   refuse : ℕ → Res A
 
 -- the refusals that the layers give, by name
+abbrev pub no-band-list : ℕ
+no-band-list = 19
+
 abbrev pub short-pixels : ℕ
 short-pixels = 22
+
+abbrev pub short-words : ℕ
+short-words = 23
 
 abbrev pub field-ran-out : ℕ
 field-ran-out = 26

@@ -1,0 +1,199 @@
+// Colour bands: the lines and columns of a picture that have colours of their own (docs/FORMAT.md, section 4).
+// They are read from the bytes after a colour change's size word and stored as words, 3 + 3n for a band of n entries.
+use outcome::NO_BAND_LIST;
+use outcome::SHORT_WORDS;
+ghost use mathlib.Core.Path.{_≡_};
+ghost use Prim.Native.Nat.{ℕ, _≤_, _<_, _-_, _+_, _^_};
+ghost use lib.ListN.{length, take, drop, set};
+ghost use lib.Seq.{sets};
+ghost use Rattle.outcome.specs.Outcome.{IsOk, listed};
+ghost use Rattle.chg_colcon.specs.Bands.{wordOf, header, headOf, entryOf, bandsOf, entriesOf};
+ghost use Rattle.chg_colcon.specs.Answers.{countOf, Stored};
+
+// What a list of bands gives.
+pub enum BandAnswer {
+    // How many words its bands take.
+    Words(usize),
+    // The number of the refusal.
+    Refused(u8),
+}
+
+// What stands where a band's header may stand.
+enum Header {
+    // The end of the list.
+    End,
+    // No header.
+    Bad,
+    // First line, last line, number of entries.
+    Band(u16, u16, u16),
+}
+
+// What stands where an entry must stand.
+enum EntryRead {
+    Bad,
+    // Column, selectors, alphas.
+    Got(u16, u16, u16),
+}
+
+fn word(a: u8, b: u8) -> u16
+    ensures { λ r. ⌜ r ≡ wordOf a b ⌝ }
+{
+    a as u16 * 256 + b as u16
+}
+
+// What two words say where a header may stand.
+fn header_of(a: u16, b: u16) -> Header
+    ensures { λ r. ⌜ r ≡ header a b ⌝ }
+{
+    if a as u32 * 65536 + b as u32 == 0x0FFF_FFFF {
+        return Header::End;
+    }
+    if 4096 <= a {
+        return Header::Bad;
+    }
+    let last = b % 4096;
+    if a <= last {
+        return Header::Band(a, last, b / 4096);
+    }
+    Header::Bad
+}
+
+// What stands at the front of p.
+fn read_head(p: &[u8]) -> Header
+    ensures { λ r. ⌜ r ≡ headOf (now (p .entry)) ⌝ }
+{
+    if p.len() == 0 {
+        return Header::End;
+    }
+    if p.len() < 4 {
+        return Header::Bad;
+    }
+    header_of(word(p[0], p[1]), word(p[2], p[3]))
+}
+
+// An entry at the front of p that starts at column lo or right of it.
+fn read_entry(p: &[u8], lo: u32) -> EntryRead
+    ensures { λ r. ⌜ r ≡ entryOf (now (p .entry)) lo ⌝ }
+{
+    if p.len() < 6 {
+        return EntryRead::Bad;
+    }
+    let col = word(p[0], p[1]);
+    if (col as u32) < lo {
+        return EntryRead::Bad;
+    }
+    EntryRead::Got(col, word(p[2], p[3]), word(p[4], p[5]))
+}
+
+// How many words the band list has, `n` more, or that it is none.
+fn count_header(p: &[u8], n: usize) -> BandAnswer
+    requires { ⌜ n + length (now p) < 2 ^ 64 ⌝ }
+    ensures { λ r. ⌜ r ≡ countOf n (bandsOf (now (p .entry))) ⌝ }
+{
+    match read_head(p) {
+        Header::End => BandAnswer::Words(n),
+        Header::Bad => BandAnswer::Refused(NO_BAND_LIST),
+        Header::Band(_, _, left) => {
+            if left == 0 {
+                return count_header(&p[4..], n + 3);
+            }
+            count_entry(&p[4..], left, 0, n + 3)
+        }
+    }
+}
+
+fn count_entry(p: &[u8], left: u16, lo: u32, n: usize) -> BandAnswer
+    requires { ⌜ (1 ≤ left) × (n + length (now p) < 2 ^ 64) ⌝ }
+    ensures { λ r. ⌜ r ≡ countOf n (entriesOf (now (p .entry)) left lo) ⌝ }
+{
+    match read_entry(p, lo) {
+        EntryRead::Bad => BandAnswer::Refused(NO_BAND_LIST),
+        EntryRead::Got(col, _, _) => {
+            if left == 1 {
+                return count_header(&p[6..], n + 3);
+            }
+            count_entry(&p[6..], left - 1, col as u32 + 1, n + 3)
+        }
+    }
+}
+
+// Three words from `at` on.
+fn put3(out: &mut [u16], at: usize, a: u16, b: u16, c: u16)
+    requires { ⌜ at + 3 ≤ length (now out) ⌝ }
+    ensures { λ _. ⌜ now (out .exit) ≡ set (set (set (now (out .entry)) at a) (at + 1) b) (at + 2) c ⌝ }
+{
+    out[at] = a;
+    out[at + 1] = b;
+    out[at + 2] = c;
+}
+
+// Writes the words of the band list into `out` from `at` on.
+fn fill_header(p: &[u8], out: &mut [u16], at: usize)
+    requires { ⌜ (IsOk (bandsOf (now p))) × (at + length (listed (bandsOf (now p))) ≤ length (now out)) ⌝ }
+    ensures { λ _. ⌜ now (out .exit) ≡ sets (now (out .entry)) at (listed (bandsOf (now (p .entry)))) ⌝ }
+{
+    match read_head(p) {
+        Header::End => {}
+        Header::Bad => {}
+        Header::Band(first, last, left) => {
+            put3(out, at, first, last, left);
+            if left == 0 {
+                fill_header(&p[4..], out, at + 3);
+            } else {
+                fill_entry(&p[4..], left, 0, out, at + 3);
+            }
+        }
+    }
+}
+
+fn fill_entry(p: &[u8], left: u16, lo: u32, out: &mut [u16], at: usize)
+    requires { ⌜ (1 ≤ left) × (IsOk (entriesOf (now p) left lo)) × (at + length (listed (entriesOf (now p) left lo)) ≤ length (now out)) ⌝ }
+    ensures { λ _. ⌜ now (out .exit) ≡ sets (now (out .entry)) at (listed (entriesOf (now (p .entry)) left lo)) ⌝ }
+{
+    match read_entry(p, lo) {
+        EntryRead::Bad => {}
+        EntryRead::Got(col, selectors, alphas) => {
+            put3(out, at, col, selectors, alphas);
+            if left == 1 {
+                fill_header(&p[6..], out, at + 3);
+            } else {
+                fill_entry(&p[6..], left - 1, col as u32 + 1, out, at + 3);
+            }
+        }
+    }
+}
+
+// How many words the bands in a payload take.
+// Ruled out: one to three bytes left taken for the end; a band counted whose entries do not rise.
+pub fn count_words(payload: &[u8]) -> BandAnswer
+    ensures { λ r. ⌜ r ≡ countOf 0 (bandsOf (now (payload .entry))) ⌝ }
+{
+    count_header(payload, 0)
+}
+
+// The words of the bands in a payload, from place `at` of the lent words on, where they were counted and fit.
+pub fn fill_words(payload: &[u8], words: &mut [u16], at: usize)
+    requires { ⌜ IsOk (bandsOf (now payload)) × (at + length (listed (bandsOf (now payload))) ≤ length (now words)) ⌝ }
+    ensures { λ _. ⌜ now (words .exit) ≡ sets (now (words .entry)) at (listed (bandsOf (now (payload .entry)))) ⌝ }
+{
+    fill_header(payload, words, at);
+}
+
+// The bands in a payload, stored from place `at` of the lent words on. On a refusal the words are as found.
+// Ruled out: words stored before the list is known to be whole; a colour's nibble in another place of its word.
+pub fn parse_chg_colcon_payload(payload: &[u8], words: &mut [u16], at: usize) -> BandAnswer
+    ensures { λ r. ⌜ Stored (now (payload .entry)) at (now (words .entry)) r (now (words .exit)) ⌝ }
+{
+    match count_words(payload) {
+        BandAnswer::Words(n) => {
+            if at <= words.len() {
+                if n <= words.len() - at {
+                    fill_words(payload, words, at);
+                    return BandAnswer::Words(n);
+                }
+            }
+            BandAnswer::Refused(SHORT_WORDS)
+        }
+        BandAnswer::Refused(number) => BandAnswer::Refused(number),
+    }
+}
