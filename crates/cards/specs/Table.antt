@@ -1,4 +1,4 @@
--- The table of cards: bytes, what the definitions make of them, and what they should make. Each layer adds its rows.
+-- The table of cards: bytes, what the definitions make of them, and what that should be. Each layer has its part.
 -- Assumes nothing: these are definitions.
 use Prim.Native.Nat.{ℕ, _*_}
 use mathlib.Core.List.{List, [], _∷_, _++_}
@@ -36,7 +36,7 @@ fields top bottom w h px =
 
 unfoldable pub table : List Card
 table =
-    -- F: 3 of 3; 10: 4 of 0; 3F: 15 of 3; 040: 16 of 0; 0FF: 63 of 3; 0100: 64 of 0; 03FF: 255 of 3; 00F7: fill with 3
+    -- each length of code at its least and its greatest run, and a fill (FORMAT 5.2 to 5.4)
     card (code (0xF0 ∷ [])) (0 ∷ 1 ∷ 3 ∷ 3 ∷ [])
     ∷ card (code (0x10 ∷ [])) (0 ∷ 2 ∷ 4 ∷ 0 ∷ [])
     ∷ card (code (0x3F ∷ [])) (0 ∷ 2 ∷ 15 ∷ 3 ∷ [])
@@ -45,8 +45,11 @@ table =
     ∷ card (code (0x01 ∷ 0x00 ∷ [])) (0 ∷ 4 ∷ 64 ∷ 0 ∷ [])
     ∷ card (code (0x03 ∷ 0xFF ∷ [])) (0 ∷ 4 ∷ 255 ∷ 3 ∷ [])
     ∷ card (code (0x00 ∷ 0xF7 ∷ [])) (0 ∷ 4 ∷ 1000 ∷ 3 ∷ [])
-    -- 65 by 1: 64 of 1 and one 2, from two codes
+    -- a run of 64, and a fill of what is left of 65
     ∷ card (field (0x01 ∷ 0x01 ∷ 0x00 ∷ 0x02 ∷ []) 65 1 0 (replicate 65 0)) (0 ∷ 2 ∷ replicate 64 1 ++ 2 ∷ [])
+    -- rows 0 and 2 of three, and rows 1 and 3 of four: each next row two on, from a byte
+    ∷ card (field (0x5F ∷ 0xAF ∷ []) 1 3 0 (9 ∷ 9 ∷ 9 ∷ [])) (0 ∷ 2 ∷ 1 ∷ 9 ∷ 2 ∷ [])
+    ∷ card (field (0x5A ∷ 0x7F ∷ []) 2 4 1 (replicate 8 9)) (0 ∷ 4 ∷ 9 ∷ 9 ∷ 1 ∷ 2 ∷ 9 ∷ 9 ∷ 3 ∷ 3 ∷ [])
     -- 2 by 2, 1 1 2 3: the top field, the bottom field, and both in a map that has one byte more
     ∷ card (field (0x00 ∷ 0x01 ∷ []) 2 2 0 (9 ∷ 9 ∷ 9 ∷ 9 ∷ [])) (0 ∷ 1 ∷ 1 ∷ 1 ∷ 9 ∷ 9 ∷ [])
     ∷ card (field (0x60 ∷ 0x00 ∷ 0x30 ∷ []) 2 2 1 (9 ∷ 9 ∷ 9 ∷ 9 ∷ [])) (0 ∷ 2 ∷ 9 ∷ 9 ∷ 2 ∷ 3 ∷ [])

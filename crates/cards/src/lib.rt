@@ -1,1 +1,1 @@
-// The cards of the format, proved together as one tabled fact: the table is in specs/, its proof in proofs/. There is no code here.
+// Worked examples of the format, held to the definitions by one computation over a table: the table is in specs/, the proof in proofs/.

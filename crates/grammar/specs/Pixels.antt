@@ -9,7 +9,7 @@ unfoldable pub rowPixels : ℕ → List Code → List ℕ
 rowPixels left [] = replicate left 0
 rowPixels left (c ∷ cs) = replicate (paints left c) (colour c) ++ rowPixels (left - paints left c) cs
 
--- how many codes the rows list, fills and clipped ones too (FORMAT 5.9)
+-- the number of codes (FORMAT 5.9)
 unfoldable pub codesIn : List (List Code) → ℕ
 codesIn [] = 0
 codesIn (r ∷ rs) = length r + codesIn rs

@@ -55,7 +55,7 @@ afterCodes p (c ∷ cs) = afterCodes (p + c .size) cs
 unfoldable pub align : ℕ → ℕ
 align p = p + p % 2
 
--- rows of width w from half byte p on, each next one on a byte (FORMAT 5.6, 5.7)
+-- rows of width w from half byte p on, each next one on a byte (FORMAT 5.6, 5.7); how many there are is the picture's height to say
 unfoldable pub FieldRows : List ℕ → ℕ → ℕ → ℕ → List (List Code) → Type 0
 FieldRows u e w p [] = Unit {0}
 FieldRows u e w p (r ∷ rs) = RowCodes u e w p r × FieldRows u e w (align (afterCodes p r)) rs

@@ -7,7 +7,7 @@ use mathlib.Core.List.{List, [], _∷_}
 use Rattle.outcome.specs.Outcome.{Res, ok, refuse, andThen, consRes}
 
 module _ {S A : Type 0} (stop : S → Bool) (item : S → Res A) (next : S → A → S) where
-  -- f turns at most; no turn left is refusal 0, which `list-iff` shows is never met where each item lowers a number
+  -- f turns at most; with none left the answer is refusal 0, which is no item's and is never given where each item lowers a number (`list-refuses`)
   unfoldable pub listFuel : ℕ → S → Res (List A)
   listFuel zero s = refuse 0
   listFuel (suc f) s = let r = andThen (item s) (λ a. consRes a (listFuel f (next s a))) in cond (stop s) (ok []) r

@@ -13,11 +13,12 @@ use Rattle.outcome.specs.Outcome.{Res, ok, refuse, consRes, listed, short-pixel
 use Rattle.outcome.proofs.Laws.{ok-not-refuse, andThen-refuse, consRes-refuse, check-refuse, le-or-lt}
 use Rattle.outcome.proofs.Lists.{list-refuses}
 use Rattle.grammar.specs.Bytes.{nibbles}
-use Rattle.grammar.specs.Rows.{Code, paints, FieldRows, afterCodes, align}
+use Rattle.grammar.specs.Rows.{Code, paints, afterCodes, align}
 use Rattle.grammar.specs.Pixels.{codesIn}
 use Rattle.rle.specs.Codes.{made, codeFrom, codeAt, Standing, standing, rowDone, rowCode, rowNext, rowAt, fieldAt}
 use Rattle.rle.specs.Field.{rowsFrom, paintField, decoded}
 use Rattle.rle.specs.Answers.{rowCounts, fieldCounts, fieldAnswer, Decoded}
+use Rattle.rle.specs.Claim.{Listing, Accepted}
 use Rattle.rle.specs.declared.Counts.{Counts}
 use Rattle.rle.specs.declared.FieldAnswer.{FieldAnswer}
 use Rattle.rle.specs.declared.FieldAnswer.the-variants as field-answer
@@ -66,18 +67,6 @@ field-refuses u e w (suc n) p k q =
     (andThen-refuse (rowAt u e w p) (λ r. consRes r (fieldAt u e w n (align (afterCodes p r)))) q)
 
 -- ---- The claim
-
--- rs are the rows of the field s for the rows start, start + 2, .. below h
-pub record Listing (s : List ℕ) (w h start : ℕ) (rs : List (List Code)) : Type 0 where
-  pub all : length rs ≡ rowsFrom start h
-  pub rows : FieldRows s (length s) w 0 rs
-
--- what an answer and the map after it say, where rs are listed and the map holds them
-pub record Accepted (w start : ℕ) (rs : List (List Code)) (px : List ℕ) (r : FieldAnswer) (px′ : List ℕ) : Type 0 where
-  pub counts : Counts
-  pub answer : r ≡ field-answer.Rows counts
-  pub codes : counts .codes ≡ codesIn rs
-  pub pixels : px′ ≡ paintField w (start * w) rs px
 
 module _ (s : List ℕ) (w h start : ℕ) (px : List ℕ) where
   -- either the map is short, or the field decides

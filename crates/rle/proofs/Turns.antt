@@ -72,7 +72,7 @@ module _ (u : List ℕ) (e p k : ℕ) where
       let z : 4 - k ≡ suc (4 - (k + 1)) = omega arith in
       rw (z, le-leb _ _ h, lt-leb _ _ l, add-one)
 
--- ---- Counts: the only laws that name their fields
+-- ---- Counts: the laws of their sum
 
 pub plus-assoc : (a b c : Counts) → plus (plus a b) c ≡ plus a (plus b c)
 plus-assoc a b c = let z : a .codes + b .codes + c .codes ≡ a .codes + (b .codes + c .codes) = omega arith in λ i. record { codes = z i }

@@ -20,7 +20,7 @@ use Rattle.rle.specs.declared.RowAnswer.the-variants as row-answer
 use Rattle.rle.specs.declared.FieldAnswer.{FieldAnswer}
 use Rattle.rle.specs.declared.FieldAnswer.the-variants as field-answer
 
--- ---- What rows count (FORMAT 5.9). Only this part names the fields of `Counts`
+-- ---- What rows count (FORMAT 5.9)
 
 abbrev pub nothing : Counts
 nothing = record { codes = 0 }

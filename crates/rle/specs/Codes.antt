@@ -19,6 +19,7 @@ codeFrom u e p zero k = check (leb (p + k) (2 * e)) field-ran-out (ok (made u p 
 codeFrom u e p (suc j) k =
     check (leb (p + k) (2 * e)) field-ran-out (cond (leb (4 ^ k) (nibbles u p k)) (ok (made u p k)) (codeFrom u e p j (suc k)))
 
+-- the code at half byte p (FORMAT 5.2)
 unfoldable pub codeAt : List ℕ → ℕ → ℕ → Res Code
 codeAt u e p = codeFrom u e p 3 1
 

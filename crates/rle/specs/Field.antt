@@ -18,6 +18,6 @@ unfoldable pub paintField : ℕ → ℕ → List (List Code) → List ℕ → Li
 paintField w o [] px = px
 paintField w o (r ∷ rs) px = paintField w (o + 2 * w) rs (sets px o (rowPixels w r))
 
--- the rows that the field s gives a map px of width w and height h, from row `start` on: 22 comes before 26
+-- the rows that the field s gives a map px of width w and height h, from row `start` on: 22 comes before 26 (FORMAT 5.7, 5.8)
 unfoldable pub decoded : List ℕ → ℕ → ℕ → ℕ → List ℕ → Res (List (List Code))
 decoded s w h start px = check (leb (w * h) (length px)) short-pixels (fieldAt s (length s) w (rowsFrom start h) 0)

@@ -14,6 +14,9 @@ ghost use Rattle.rle.specs.Kept.{keptRun, leftAfter, placeAfter, paintKe
 ghost use Rattle.grammar.specs.Rows.{code, paints, align};
 ghost use Rattle.rle.specs.Answers.{plus, AtMost, codeAnswer, measured, RowMeasured, FieldMeasured, RowFilled, RowsDecoded, Decoded};
 
+// A row below this width has no run that a kept number could not hold.
+const WIDEST: usize = 16384;
+
 // A half-byte count over a field's bytes.
 pub struct Cursor {
     pub pos: usize,
@@ -141,7 +144,7 @@ fn keep(kept: &mut [u16], at: usize, n: usize, value: usize)
     ensures { λ _. ⌜ now (kept .exit) ≡ set (now (kept .entry)) at (keptRun n (value % 4)) ⌝ }
 {
     if at < kept.len() {
-        kept[at] = (n % 16384 * 4 + value % 4) as u16;
+        kept[at] = (n % WIDEST * 4 + value % 4) as u16;
     }
 }
 
@@ -326,7 +329,7 @@ fn decode_through(
         FieldAnswer::Rows(counts) => {
             let n = counts.codes;
             if n <= kept.len() {
-                if width < 16384 {
+                if width < WIDEST {
                     fill_kept(kept, n, width, start, pixels);
                     return FieldAnswer::Rows(counts);
                 }

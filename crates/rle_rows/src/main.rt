@@ -140,6 +140,14 @@ fn rows() {
     row(b"bottom rows", &[0xF5, 0xA6], 3, 4, 1, 12);
     row(b"bytes after the last row", &[0x5A, 0xFF, 0xFF], 2, 1, 0, 2);
     row(b"a clipped code", &[0x3F], 5, 1, 0, 5);
+    row(
+        b"a clipped code, and a row after it",
+        &[0x3F, 0x00, 0x01],
+        5,
+        3,
+        0,
+        15,
+    );
     row(b"a fill at column 0", &[0x00, 0x01], 7, 1, 0, 7);
     row(b"a fill with a third nibble", &[0x00, 0xF7], 7, 1, 0, 7);
     row(b"a map longer than the picture", &[0x5A], 2, 1, 0, 6);
@@ -204,6 +212,22 @@ fn ends() {
     row(b"ends after 2 nibbles of 3", &[0x04], 300, 1, 0, 300);
     row(b"ends after 2 nibbles of 4", &[0x00], 300, 1, 0, 300);
     row(b"ends after 3 nibbles of 4", &[0xF0, 0x03], 300, 1, 0, 300);
+    row(
+        b"ends after 2 nibbles of a run of 64",
+        &[0x01],
+        300,
+        1,
+        0,
+        300,
+    );
+    row(
+        b"ends after 3 nibbles of a run of 255",
+        &[0xF0, 0x3F],
+        300,
+        1,
+        0,
+        300,
+    );
     row(b"ends before its second row", &[0x50], 1, 3, 0, 3);
 }
 
