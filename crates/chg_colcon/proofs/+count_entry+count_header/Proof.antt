@@ -1,3 +1,4 @@
+-- `chg_colcon::count_entry` and `chg_colcon::count_header` meet their contracts: each call has fewer bytes left. Assumes nothing.
 use borrow.Author.Needs.{needs}
 use native.Mathlib.Omega.{arith}
 use mathlib.Core.Path.{sym, _∙_, ap}

@@ -1,3 +1,5 @@
+-- `chg_colcon::fill_entry` and `chg_colcon::fill_header` meet their contracts: each call has fewer bytes left, and the words written so far come first.
+-- Assumes nothing.
 use borrow.Author.Needs.{needs}
 use native.Mathlib.Omega.{arith}
 use mathlib.Core.Path.{sym, _∙_, ap}

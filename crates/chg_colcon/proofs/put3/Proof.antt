@@ -1,3 +1,4 @@
+-- `chg_colcon::put3` meets its contract. Assumes nothing.
 use native.Mathlib.Omega.{arith}
 use lib.ListN.{length-set}
 use borrow.Author.Needs.{needs}

@@ -1,3 +1,4 @@
+-- `chg_colcon::read_entry` meets its contract. Assumes nothing.
 use borrow.Author.Tests.{lt-ltb, le-ltb}
 use Rattle.chg_colcon.specs.Bands.{entryOf}
 use borrow.Author.Needs.{needs}

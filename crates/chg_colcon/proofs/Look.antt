@@ -1,0 +1,124 @@
+-- Looking up a place in stored words: one turn of each loop, and that words of bands give what the listed bands give. Assumes nothing.
+use Prim.Native.Nat.{ℕ, zero, suc, _+_, _-_, _*_, _/_, _≤_, _<_, min}
+use native.Mathlib.Numerals.{add-one, add-two, add-three}
+use native.Mathlib.Omega.{arith}
+use mathlib.Core.Path.{_≡_, refl, ap, sym, _∙_}
+use mathlib.Core.Bool.{Bool, true, false, cond, _&&_}
+use mathlib.Core.Logic.{⊎-elim}
+use mathlib.Core.Option.{Option}
+use mathlib.Core.List.{List, [], _∷_, _++_}
+use lib.Dec.{leb}
+use lib.ListN.{length, getD, drop, length-drop}
+use lib.Seq.{drop-cons, drop-drop}
+use Rattle.outcome.proofs.Laws.{le-or-lt}
+use Rattle.grammar.specs.Bands.{Entry, Band, Bands, entryWords, bandWords, bandEnd}
+use Rattle.grammar.specs.Look.{Look, rightmost, lastLook, lookAt}
+use Rattle.chg_colcon.specs.Look.{pickEntry, looking, lookWords, entriesLook, bandLook}
+
+-- three words at a place
+pub drop3 : (ws : List ℕ) (i : ℕ) → i + 3 ≤ length ws → drop i ws ≡ getD ws i 0 ∷ getD ws (i + 1) 0 ∷ getD ws (i + 2) 0 ∷ drop (i + 3) ws
+drop3 ws i h =
+    drop-cons ws i 0 (omega arith)
+    ∙ ap (λ (l : List ℕ). getD ws i 0 ∷ l) (drop-cons ws (suc i) 0 (omega arith) ∙ ap (λ (l : List ℕ). getD ws (suc i) 0 ∷ l) (drop-cons ws (suc (suc i)) 0 (omega arith)))
+    ∙ simp (add-one, add-two, add-three)
+
+-- a turn of looking through entries
+pub entries-more : (x left i : ℕ) (o : Option Look) (ws : List ℕ) → 0 < left → i + 3 ≤ length ws
+    → entriesLook x (pickEntry x (getD ws i 0) (getD ws (i + 1) 0) (getD ws (i + 2) 0) o) (left - 1) (drop (i + 3) ws) ≡ entriesLook x o left (drop i ws)
+unfolding entriesLook
+entries-more x zero i o ws l h = absurd (omega arith)
+entries-more x (suc n) i o ws l h = let z : suc n - 1 ≡ n = omega arith in rw (drop3 ws i h, z)
+
+pub entries-end : (x left : ℕ) (o : Option Look) (ws : List ℕ) → left ≡ 0 → o ≡ entriesLook x o left ws
+unfolding entriesLook
+entries-end x left o ws q = rw q
+
+-- fewer than three words say nothing
+looking-short : (x y left : ℕ) (s : Bool) (o : Option Look) (ws : List ℕ) → length ws < 3 → looking x y left s o ws ≡ o
+unfolding looking
+looking-short x y left s o [] h = refl
+looking-short x y left s o (a ∷ []) h = refl
+looking-short x y left s o (a ∷ b ∷ []) h = refl
+looking-short x y left s o (a ∷ b ∷ c ∷ ws) h = absurd (omega arith)
+
+-- between bands it does not matter what the last one spanned
+looking-fresh : (x y : ℕ) (s t : Bool) (o : Option Look) (ws : List ℕ) → looking x y 0 s o ws ≡ looking x y 0 t o ws
+unfolding looking
+looking-fresh x y s t o [] = refl
+looking-fresh x y s t o (a ∷ []) = refl
+looking-fresh x y s t o (a ∷ b ∷ []) = refl
+looking-fresh x y s t o (a ∷ b ∷ c ∷ ws) = refl
+
+-- n of a band's m entries
+looking-entries : (x y n m : ℕ) (s : Bool) (o : Option Look) (ws : List ℕ) → n ≤ m → 3 * n ≤ length ws
+    → looking x y m s o ws ≡ looking x y (m - n) s (cond s (entriesLook x o n ws) o) (drop (3 * n) ws)
+unfolding looking entriesLook
+looking-entries x y zero m true o ws h l = let z : m - 0 ≡ m = omega arith in rw z
+looking-entries x y zero m false o ws h l = let z : m - 0 ≡ m = omega arith in rw z
+looking-entries x y (suc n) zero s o ws h l = absurd (omega arith)
+looking-entries x y (suc n) (suc m) s o [] h l = absurd (omega arith)
+looking-entries x y (suc n) (suc m) s o (a ∷ []) h l = absurd (omega arith)
+looking-entries x y (suc n) (suc m) s o (a ∷ b ∷ []) h l = absurd (omega arith)
+looking-entries x y (suc n) (suc m) true o (a ∷ b ∷ c ∷ ws) h l =
+    let z : suc m - suc n ≡ m - n = omega arith in
+    let w : 3 * suc n ≡ suc (suc (suc (3 * n))) = omega arith in
+    rw (z, w) (looking-entries x y n m true (pickEntry x a b c o) ws (omega arith) (omega arith))
+looking-entries x y (suc n) (suc m) false o (a ∷ b ∷ c ∷ ws) h l =
+    let z : suc m - suc n ≡ m - n = omega arith in
+    let w : 3 * suc n ≡ suc (suc (suc (3 * n))) = omega arith in
+    rw (z, w) (looking-entries x y n m false o ws (omega arith) (omega arith))
+
+-- a whole band, or as much of it as there is
+looking-band : (x y a b c n : ℕ) (s : Bool) (o : Option Look) (ws : List ℕ) → n ≡ min c (length ws / 3)
+    → looking x y 0 s (bandLook x y a b n o ws) (drop (3 * n) ws) ≡ looking x y 0 s o (a ∷ b ∷ c ∷ ws)
+unfolding looking
+looking-band x y a b c n s o ws q =
+    let l : 3 * n ≤ length ws = omega arith in
+    let h : n ≤ c = omega arith in
+    let t : Bool = leb a y && leb y b in
+    ⊎-elim
+    (λ (f : c ≤ n).
+    let z : c - n ≡ 0 = omega arith in
+    looking-fresh x y s t (bandLook x y a b n o ws) (drop (3 * n) ws) ∙ sym (looking-entries x y n c t o ws h l ∙ rw z))
+    (λ (f : n < c).
+    let r : length (drop (3 * n) ws) < 3 = rw (length-drop (3 * n) ws) (omega arith) in
+    looking-short x y 0 s (bandLook x y a b n o ws) (drop (3 * n) ws) r
+    ∙ sym (looking-entries x y n c t o ws h l ∙ looking-short x y (c - n) t (bandLook x y a b n o ws) (drop (3 * n) ws) r))
+    (le-or-lt c n)
+
+-- a turn of looking through bands
+pub bands-more : (x y i n : ℕ) (o r : Option Look) (ws : List ℕ) → i + 3 ≤ length ws → n ≡ min (getD ws (i + 2) 0) ((length ws - (i + 3)) / 3)
+    → r ≡ bandLook x y (getD ws (i + 3 - 3) 0) (getD ws (i + 3 - 2) 0) n o (drop (i + 3) ws)
+    → looking x y 0 false r (drop (i + 3 + 3 * n) ws) ≡ looking x y 0 false o (drop i ws)
+bands-more x y i n o r ws h q f =
+    let m : n ≡ min (getD ws (i + 2) 0) (length (drop (i + 3) ws) / 3) = rw (length-drop (i + 3) ws) q in
+    let a : i + 3 - 3 ≡ i = omega arith in
+    let b : i + 3 - 2 ≡ i + 1 = omega arith in
+    rw (f, a, b, drop3 ws i h, ← drop-drop (3 * n) (i + 3) ws) (looking-band x y (getD ws i 0) (getD ws (i + 1) 0) (getD ws (i + 2) 0) n false o (drop (i + 3) ws) m)
+
+pub bands-end : (x y i : ℕ) (o : Option Look) (ws : List ℕ) → length ws - i < 3 → o ≡ looking x y 0 false o (drop i ws)
+bands-end x y i o ws h = sym (looking-short x y 0 false o (drop i ws) (rw (length-drop i ws) h))
+
+-- ---- Words of listed bands
+
+words-entries : (x y : ℕ) (s : Bool) (o : Option Look) (es : List Entry) (ws : List ℕ)
+    → looking x y (length es) s o (entryWords es ++ ws) ≡ looking x y 0 s (cond s (rightmost x o es) o) ws
+unfolding looking entryWords rightmost
+words-entries x y true o [] ws = refl
+words-entries x y false o [] ws = refl
+words-entries x y true o (e ∷ es) ws = words-entries x y true (pickEntry x (e .column) (e .selectors) (e .alphas) o) es ws
+words-entries x y false o (e ∷ es) ws = words-entries x y false o es ws
+
+words-bands : (u : List ℕ) (e p x y : ℕ) (s : Bool) (o : Option Look) (bs : List Band) → Bands u e p bs → looking x y 0 s o (bandWords bs) ≡ lastLook x y o bs
+unfolding Bands bandWords looking lastLook
+words-bands u e p x y s o [] h = refl
+words-bands u e p x y s o (b ∷ bs) h =
+    let t : Bool = leb (b .first) y && leb y (b .last) in
+    rw (← h .1 .all)
+    (words-entries x y t o (b .entries) (bandWords bs)
+    ∙ words-bands u e (bandEnd b) x y t (cond t (rightmost x o (b .entries)) o) bs (h .2))
+
+-- what stored bands give is what the listed bands give
+pub look-listed : (u : List ℕ) (e p x y : ℕ) (bs : List Band) → Bands u e p bs → lookWords x y (bandWords bs) ≡ lookAt x y bs
+unfolding lookWords lookAt
+look-listed u e p x y bs h = words-bands u e p x y false _ bs h
