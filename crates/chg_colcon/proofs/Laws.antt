@@ -15,6 +15,7 @@ use Rattle.chg_colcon.specs.Answers.{countOf, stored, Stored}
 use Rattle.chg_colcon.specs.declared.BandAnswer.the-variants as C
 use Rattle.chg_colcon.specs.declared.Header.{Header}
 use Rattle.chg_colcon.specs.declared.Header.the-variants as H
+use Rattle.chg_colcon.specs.declared.EntryRead.{EntryRead}
 use Rattle.chg_colcon.specs.declared.EntryRead.the-variants as E
 
 -- the rest after k bytes, as a part of a slice has it
@@ -57,20 +58,20 @@ entries-step (a ∷ b ∷ c ∷ d ∷ e ∷ f ∷ s) n lo = refl
 -- what a header or an entry needs is there
 pub head-room : (s : List ℕ) (f l n : ℕ) → headOf s ≡ H.Band f l n → 4 ≤ length s
 unfolding headOf
-head-room s f l n e = go (eqb (length s) 0) (ltb (length s) 4) refl e
+head-room s f l n e = go (eqb (length s) 0) (ltb (length s) 4) refl _ e
   where
-    go : (t u : Bool) → ltb (length s) 4 ≡ u → cond t H.End (cond u H.Bad (header (wordOf (getD s 0 0) (getD s 1 0)) (wordOf (getD s 2 0) (getD s 3 0)))) ≡ H.Band f l n → 4 ≤ length s
-    go true u q e = let z : _≡_ {A = ℕ} 0 1 = cc in omega arith
-    go false true q e = let z : _≡_ {A = ℕ} 0 1 = cc in omega arith
-    go false false q e = ltb-false (length s) 4 q
+    go : (t u : Bool) → ltb (length s) 4 ≡ u → (h : Header) → cond t H.End (cond u H.Bad h) ≡ H.Band f l n → 4 ≤ length s
+    go true u q h e = let z : _≡_ {A = ℕ} 0 1 = cc in omega arith
+    go false true q h e = let z : _≡_ {A = ℕ} 0 1 = cc in omega arith
+    go false false q h e = ltb-false (length s) 4 q
 
 pub entry-room : (s : List ℕ) (lo c x a : ℕ) → entryOf s lo ≡ E.Got c x a → 6 ≤ length s
 unfolding entryOf
-entry-room s lo c x a e = go (ltb (length s) 6) refl e
+entry-room s lo c x a e = go (ltb (length s) 6) refl _ e
   where
-    go : (u : Bool) → ltb (length s) 6 ≡ u → cond u E.Bad (cond (ltb (wordOf (getD s 0 0) (getD s 1 0)) lo) E.Bad (E.Got (wordOf (getD s 0 0) (getD s 1 0)) (wordOf (getD s 2 0) (getD s 3 0)) (wordOf (getD s 4 0) (getD s 5 0)))) ≡ E.Got c x a → 6 ≤ length s
-    go true q e = let z : _≡_ {A = ℕ} 0 1 = cc in omega arith
-    go false q e = ltb-false (length s) 6 q
+    go : (u : Bool) → ltb (length s) 6 ≡ u → (r : EntryRead) → cond u E.Bad r ≡ E.Got c x a → 6 ≤ length s
+    go true q r e = let z : _≡_ {A = ℕ} 0 1 = cc in omega arith
+    go false q r e = ltb-false (length s) 6 q
 
 -- three words in front
 pub count-push : (n x y z : ℕ) (g : Res (List ℕ)) → countOf (n + 3) g ≡ countOf n (push3 x y z g)

@@ -1,11 +1,15 @@
 -- Cards for what the grammar and the reader share, and the claim so does not guard: a code's run and colour, the fill, the clip,
--- alignment, pixels and the number of codes. One test over the table. Assumes nothing.
+-- alignment, pixels and the number of codes; words, what bands are stored as, and what they give at a place. One test over the table.
+-- Assumes nothing.
 use Prim.Native.Nat.{ℕ}
 use mathlib.Core.Path.{_≡_, refl}
 use mathlib.Core.List.{List, [], _∷_, map}
-use Rattle.grammar.specs.Bytes.{nibble, nibbles}
+use mathlib.Core.Option.{Option, some, none}
+use Rattle.grammar.specs.Bytes.{nibble, nibbles, word}
 use Rattle.grammar.specs.Rows.{Code, code, colour, paints, afterCodes, align}
 use Rattle.grammar.specs.Pixels.{rowPixels, codesIn}
+use Rattle.grammar.specs.Bands.{Entry, Band, entryWords, bandWords, bandEnd}
+use Rattle.grammar.specs.Look.{Look, rightmost, lastLook, lookAt}
 
 -- of a code with `left` pixels to go: how many it paints, and their colour
 abbrev painted : ℕ → Code → List ℕ
@@ -22,6 +26,22 @@ card g w = record { got = g; want = w }
 -- from half byte 5: a run of 1 in colour 3, of 4 in colour 2, of 2 in colour 1
 abbrev row : List Code
 row = code 5 1 7 ∷ code 6 2 18 ∷ code 8 1 9 ∷ []
+
+abbrev entry : ℕ → ℕ → ℕ → ℕ → Entry
+entry p c s a = record { place = p; column = c; selectors = s; alphas = a }
+
+-- lines 4 to 6 from columns 5 and 8 on; the same lines with no entry; lines 6 to 9 from column 7 on
+abbrev bands : List Band
+bands =
+    record { place = 0; first = 4; last = 6; count = 2; entries = entry 4 5 1 2 ∷ entry 10 8 3 4 ∷ [] }
+    ∷ record { place = 16; first = 4; last = 6; count = 0; entries = [] }
+    ∷ record { place = 20; first = 6; last = 9; count = 1; entries = entry 24 7 5 6 ∷ [] }
+    ∷ []
+
+-- selectors and alphas
+abbrev given : Option Look → List ℕ
+given none = []
+given (some l) = l .selectors ∷ l .alphas ∷ []
 
 cards : List Card
 cards =
@@ -40,8 +60,24 @@ cards =
     ∷ card (rowPixels 6 row) (3 ∷ 2 ∷ 2 ∷ 2 ∷ 2 ∷ 1 ∷ [])
     ∷ card (rowPixels 3 []) (0 ∷ 0 ∷ 0 ∷ [])
     ∷ card (codesIn (row ∷ [] ∷ row ∷ []) ∷ []) (6 ∷ [])
+    ∷ card (word (0xA3 ∷ 0x5C ∷ 0x01 ∷ []) 0 ∷ word (0xA3 ∷ 0x5C ∷ 0x01 ∷ []) 1 ∷ []) (0xA35C ∷ 0x5C01 ∷ [])
+    ∷ card (bandWords bands) (4 ∷ 6 ∷ 2 ∷ 5 ∷ 1 ∷ 2 ∷ 8 ∷ 3 ∷ 4 ∷ 4 ∷ 6 ∷ 0 ∷ 6 ∷ 9 ∷ 1 ∷ 7 ∷ 5 ∷ 6 ∷ [])
+    ∷ card (map bandEnd bands) (16 ∷ 20 ∷ 30 ∷ [])
+    -- left of every entry, at the first, before and at the second; a band with no entry shadows none
+    ∷ card (given (lookAt 4 5 bands)) []
+    ∷ card (given (lookAt 5 5 bands)) (1 ∷ 2 ∷ [])
+    ∷ card (given (lookAt 7 5 bands)) (1 ∷ 2 ∷ [])
+    ∷ card (given (lookAt 8 5 bands)) (3 ∷ 4 ∷ [])
+    -- above the first line, on it, on a line of two bands, on the last line, below it
+    ∷ card (given (lookAt 8 3 bands)) []
+    ∷ card (given (lookAt 8 4 bands)) (3 ∷ 4 ∷ [])
+    ∷ card (given (lookAt 8 6 bands)) (5 ∷ 6 ∷ [])
+    ∷ card (given (lookAt 8 9 bands)) (5 ∷ 6 ∷ [])
+    ∷ card (given (lookAt 8 10 bands)) []
+    -- on a line of two bands, where the later one starts right of the column
+    ∷ card (given (lookAt 6 6 bands)) (1 ∷ 2 ∷ [])
     ∷ []
 
 tabled : map (λ c. c .got) cards ≡ map (λ c. c .want) cards
-unfolding cards nibble nibbles paints afterCodes align rowPixels codesIn
+unfolding cards nibble nibbles paints afterCodes align rowPixels codesIn word entryWords bandWords rightmost lastLook lookAt
 tabled = refl
