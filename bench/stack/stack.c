@@ -6,9 +6,9 @@
 
 #include "vobsub.h"
 
-enum { PAYLOAD = 65532, WORDS = 65536 };
+enum { PAYLOAD = 65532, LONG = 16 * 1024 * 1024, WORDS = 65536 };
 
-static uint8_t payload[PAYLOAD];
+static uint8_t payload[LONG];
 static uint16_t words[WORDS];
 
 static void read_all(const char *name, size_t expected)
@@ -41,6 +41,14 @@ static void *run(void *unused)
     memset(payload + at, 0xFF, PAYLOAD - at);
     payload[at] = 0x0F;
     read_all("bands of 15 entries", bands * 48);
+
+    /* headers that no size word can count */
+    size_t count = 1;
+    memset(payload, 0, LONG);
+    uint8_t refusal = vobsub_parse_chg_colcon_payload(payload, LONG, words, WORDS, 0, &count);
+    printf("16 MiB of bands: refusal %u\n", refusal);
+    if (refusal != 19 || count != 1)
+        exit(1);
     return NULL;
 }
 
