@@ -14,6 +14,7 @@ use Rattle.outcome.specs.Outcome.{Res, ok, refuse}
 use Rattle.outcome.proofs.Laws.{ok-not-refuse, ok-injective, le-or-lt}
 use Rattle.grammar.specs.Bytes.{word}
 use Rattle.grammar.specs.Bands.{Entry, Band, Entries, Bands, entryWords, bandWords}
+use Rattle.chg_colcon.specs.Claim.{Listing}
 use Rattle.chg_colcon.specs.Bands.{wordOf, push3, header, headOf, entryOf, onHead, onEntry, bandsOf, entriesOf}
 use Rattle.chg_colcon.specs.declared.Header.{Header}
 use Rattle.chg_colcon.specs.declared.Header.the-variants as H
@@ -308,12 +309,7 @@ module _ (u : List ℕ) (e : ℕ) (k : e ≤ length u) where
           })
           c
 
--- the words are those of bands that the grammar passes, and where it passes bands these are the words
-pub record Listing (u : List ℕ) (e p : ℕ) (ws : List ℕ) : Type 0 where
-  pub bands : List Band
-  pub is : Bands u e p bands
-  pub words : ws ≡ bandWords bands
-
+-- the words answered are those of bands that the grammar lists, and where it lists bands these are the words
 pub bands-iff : (u : List ℕ) (e p : ℕ) (ws : List ℕ) → e ≤ length u → p ≤ e → (bandsOf (slice p e u) ≡ ok ws) ↔ Listing u e p ws
 bands-iff u e p ws k b = (
   λ q. let f = bands-sound u e k (suc (e - p)) p ws b (omega arith) q in record { bands = f .bs; is = f .is; words = f .words },

@@ -1,3 +1,4 @@
 pub mod Bands
 pub mod Answers
 pub mod Look
+pub mod Claim

@@ -172,14 +172,6 @@ pub fn count_words(payload: &[u8]) -> BandAnswer
     count_header(payload, 0)
 }
 
-// The words of the bands in a payload, from place `at` of the lent words on, where they were counted and fit.
-pub fn fill_words(payload: &[u8], words: &mut [u16], at: usize)
-    requires { ⌜ IsOk (bandsOf (now payload)) × (at + length (listed (bandsOf (now payload))) ≤ length (now words)) ⌝ }
-    ensures { λ _. ⌜ now (words .exit) ≡ sets (now (words .entry)) at (listed (bandsOf (now (payload .entry)))) ⌝ }
-{
-    fill_header(payload, words, at);
-}
-
 // The bands in a payload, stored from place `at` of the lent words on. On a refusal the words are as found.
 // Ruled out: words stored before the list is known to be whole; a colour's nibble in another place of its word.
 pub fn parse_chg_colcon_payload(payload: &[u8], words: &mut [u16], at: usize) -> BandAnswer
@@ -189,7 +181,7 @@ pub fn parse_chg_colcon_payload(payload: &[u8], words: &mut [u16], at: usize) ->
         BandAnswer::Words(n) => {
             if at <= words.len() {
                 if n <= words.len() - at {
-                    fill_words(payload, words, at);
+                    fill_header(payload, words, at);
                     return BandAnswer::Words(n);
                 }
             }

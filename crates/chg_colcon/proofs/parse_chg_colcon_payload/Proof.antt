@@ -17,8 +17,8 @@ enum-known-n c = search needs
 sub-if2 : tie.Need-sub-if2
 sub-if2 c = search needs
 
-fill-words-requires : tie.Need-fill-words-requires
-fill-words-requires c κs =
+fill-header-requires : tie.Need-fill-header-requires
+fill-header-requires c κs =
     let q = counted (bandsOf (now (c .before .before .before .before .before .before .before .before .before .args .payload))) (c .before .before .before .before .n .given .0 .0) (sym (c .before .before .before .before .before .before .count-words .ensures) ∙ c .before .before .before .before .n .given .1) in
     (q .0, omega (arith, c .before .if2 .taken, c .before .before .if1 .taken, q .1))
 
@@ -29,7 +29,7 @@ returns : tie.Need-returns
 returns c =
     let h = c .before .before .before .before .if2 .taken in
     let k = c .before .before .before .before .before .if1 .taken in
-    stored-words _ _ _ _ _ (sym (c .before .before .before .before .before .before .before .before .before .count-words .ensures) ∙ c .before .before .before .before .before .before .before .n .given .1) (omega arith) (c .before .before .fill-words .ensures)
+    stored-words _ _ _ _ _ (sym (c .before .before .before .before .before .before .before .before .before .count-words .ensures) ∙ c .before .before .before .before .before .before .before .n .given .1) (omega arith) (c .before .before .fill-header .ensures)
 
 enum-known-number : tie.Need-enum-known-number
 enum-known-number c = search needs
@@ -55,7 +55,7 @@ parse-chg-colcon-payload-spec =
     count-words-requires
     enum-known-n
     sub-if2
-    fill-words-requires
+    fill-header-requires
     same-length
     returns
     enum-known-number

@@ -1,11 +1,10 @@
 -- `vobsub_c::vobsub_parse_chg_colcon_payload` meets its contract: the answer of the layer, taken apart. Assumes nothing.
-use Prim.Native.Nat.{ℕ, _≤_, _<_}
+use Prim.Native.Nat.{ℕ}
 use mathlib.Core.Path.{_≡_, refl, sym, ap, _∙_}
 use mathlib.Core.Bool.{Bool}
 use mathlib.Core.List.{List}
 use borrow.Author.Needs.{needs}
 use borrow.Author.Tests.{le-leb, lt-leb}
-use lib.ListN.{length}
 use lib.Seq.{sets}
 use Rattle.outcome.specs.Outcome.{Res, refuse, check, listed, no-band-list}
 use Rattle.chg_colcon.specs.Answers.{countOf, stored}
