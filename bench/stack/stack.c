@@ -9,15 +9,18 @@
 enum { PAYLOAD = 65532, LONG = 16 * 1024 * 1024, WORDS = 65536 };
 
 static uint8_t payload[LONG];
-static uint16_t words[WORDS];
+static uint16_t words[WORDS], expected[WORDS];
 
-static void read_all(const char *name, size_t expected)
+/* stores the payload's bands, and ends the program unless they are the words of expected[] and no more */
+static void read_all(const char *name, size_t length)
 {
     size_t count = 0;
     memset(words, 0xEE, sizeof words);
     uint8_t refusal = vobsub_parse_chg_colcon_payload(payload, PAYLOAD, words, WORDS, 0, &count);
     printf("%s: refusal %u, %zu words\n", name, refusal, count);
-    if (refusal != 0 || count != expected || words[expected] != 0xEEEE)
+    if (refusal != 0 || count != length || words[length] != 0xEEEE)
+        exit(1);
+    if (memcmp(words, expected, length * sizeof words[0]) != 0)
         exit(1);
 }
 
@@ -33,8 +36,11 @@ static void *run(void *unused)
     while (PAYLOAD - at >= 94 + 4) {
         memset(payload + at, 0, 94);
         payload[at + 2] = 0xF0;
-        for (size_t i = 0; i < 15; i++)
+        expected[48 * bands + 2] = 15;
+        for (size_t i = 0; i < 15; i++) {
             payload[at + 4 + 6 * i + 1] = (uint8_t)i;
+            expected[48 * bands + 3 + 3 * i] = (uint16_t)i;
+        }
         at += 94;
         bands++;
     }

@@ -219,24 +219,19 @@ module _ (u : List ℕ) (e : ℕ) (k : e ≤ length u) where
 
   -- ---- What is answered is listed
 
-  record Found (p : ℕ) (ws : List ℕ) : Type 0 where
-    bs : List Band
-    is : Bands u e p bs
-    words : ws ≡ bandWords bs
-
   record Entered (p n lo : ℕ) (ws : List ℕ) : Type 0 where
     xs : List Entry
     rest : List ℕ
     all : length xs ≡ n
     list : Entries u e p lo xs
     words : ws ≡ entryWords xs ++ rest
-    found : Found (p + 6 * n) rest
+    found : Listing u e (p + 6 * n) rest
 
-  enter : (n p lo : ℕ) (ws : List ℕ) → p ≤ e → ((q : ℕ) (vs : List ℕ) → p ≤ q → q ≤ e → bandsOf (part q) ≡ ok vs → Found q vs) → follow (part p) n lo ≡ ok ws → Entered p n lo ws
+  enter : (n p lo : ℕ) (ws : List ℕ) → p ≤ e → ((q : ℕ) (vs : List ℕ) → p ≤ q → q ≤ e → bandsOf (part q) ≡ ok vs → Listing u e q vs) → follow (part p) n lo ≡ ok ws → Entered p n lo ws
   unfolding Entries entryWords
   enter zero p lo ws b rec q =
       let z : p ≡ p + 6 * 0 = omega arith in
-      record { xs = []; rest = ws; all = refl; list = tt; words = refl; found = subst (λ (x : ℕ). Found x ws) z (rec p ws (omega arith) b q) }
+      record { xs = []; rest = ws; all = refl; list = tt; words = refl; found = subst (λ (x : ℕ). Listing u e x ws) z (rec p ws (omega arith) b q) }
   enter (suc n) p lo ws b rec q =
       go (λ c vs w g. enter n (p + 6) (c + 1) vs w (λ x ys l. rec x ys (omega arith)) g) (entryOf (part p) lo) refl (sym (entries-turn (part p) n lo) ∙ q)
     where
@@ -259,23 +254,23 @@ module _ (u : List ℕ) (e : ℕ) (k : e ≤ length u) where
               subst (λ (x : ℕ). Entries u e (p + 6) x (t .xs)) (add-one c) (t .list),
             );
             words = v .2 ∙ ap (λ (l : List ℕ). c ∷ s ∷ a ∷ l) (t .words);
-            found = subst (λ (x : ℕ). Found x (t .rest)) z (t .found);
+            found = subst (λ (x : ℕ). Listing u e x (t .rest)) z (t .found);
           }
 
   -- f turns are enough where fewer than f bytes are left
-  bands-sound : (f p : ℕ) (ws : List ℕ) → p ≤ e → e - p < f → bandsOf (part p) ≡ ok ws → Found p ws
+  bands-sound : (f p : ℕ) (ws : List ℕ) → p ≤ e → e - p < f → bandsOf (part p) ≡ ok ws → Listing u e p ws
   unfolding Bands bandWords
   bands-sound zero p ws b l q = absurd (omega arith)
   bands-sound (suc f) p ws b l q =
       go (λ x vs c d g. bands-sound f x vs c d g) (headOf (part p)) refl (sym (bands-step (part p)) ∙ q)
     where
-      go : ((x : ℕ) (vs : List ℕ) → x ≤ e → e - x < f → bandsOf (part x) ≡ ok vs → Found x vs)
-          → (h : Header) → headOf (part p) ≡ h → onHead h (λ n. follow (drop 4 (part p)) n 0) ≡ ok ws → Found p ws
+      go : ((x : ℕ) (vs : List ℕ) → x ≤ e → e - x < f → bandsOf (part x) ≡ ok vs → Listing u e x vs)
+          → (h : Header) → headOf (part p) ≡ h → onHead h (λ n. follow (drop 4 (part p)) n 0) ≡ ok ws → Listing u e p ws
       go ih H.Bad r g = ok-not-refuse g
       go ih H.End r g =
           let c = head-cases p H.End b r (λ z. let y : _≡_ {A = ℕ} 0 1 = cc in omega arith) in
           record {
-            bs = [];
+            bands = [];
             is = ⊎-elim (λ d. inl d) (λ d. inr (record { within = d .0; mark = header-end (word u p) (word u (p + 2)) (d .1) })) c;
             words = sym (ok-injective g);
           }
@@ -289,7 +284,7 @@ module _ (u : List ℕ) (e : ℕ) (k : e ≤ length u) where
           let w : follow (part (p + 4)) n 0 ≡ ok (v .0) = sym (ap (λ (l : List ℕ). follow l n 0) (part-drop p 4)) ∙ v .1 in
           let t = enter n (p + 4) 0 (v .0) (d .0) (λ a vs m o h. ih a vs o (omega arith) h) w in
           record {
-            bs = record { place = p; first = x; last = y; count = n; entries = t .xs } ∷ t .found .bs;
+            bands = record { place = p; first = x; last = y; count = n; entries = t .xs } ∷ t .found .bands;
             is = (
               refl,
               record {
@@ -312,6 +307,6 @@ module _ (u : List ℕ) (e : ℕ) (k : e ≤ length u) where
 -- the words answered are those of bands that the grammar lists, and where it lists bands these are the words
 pub bands-iff : (u : List ℕ) (e p : ℕ) (ws : List ℕ) → e ≤ length u → p ≤ e → (bandsOf (slice p e u) ≡ ok ws) ↔ Listing u e p ws
 bands-iff u e p ws k b = (
-  λ q. let f = bands-sound u e k (suc (e - p)) p ws b (omega arith) q in record { bands = f .bs; is = f .is; words = f .words },
+  λ q. bands-sound u e k (suc (e - p)) p ws b (omega arith) q,
   λ l. bands-complete u e k (l .bands) p (l .is) ∙ ap ok (sym (l .words)),
 )

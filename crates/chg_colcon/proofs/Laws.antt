@@ -1,4 +1,4 @@
--- Laws of the band list's definitions, for the two cycles of calls.
+-- Laws of the band list's definitions: a turn of reading, a turn of storing, and what is stored where it fits. Assumes nothing.
 use mathlib.Core.Path.{_≡_, refl, ap, sym, subst}
 use mathlib.Core.List.{List, [], _∷_}
 use mathlib.Core.Bool.{Bool, true, false, cond}
@@ -12,15 +12,15 @@ use lib.ListN.{length, getD, drop, take, set, length-drop}
 use lib.Seq.{sets, take-all}
 use Rattle.chg_colcon.specs.Bands.{wordOf, push3, header, headOf, entryOf, onHead, onEntry, bandsOf, entriesOf}
 use Rattle.chg_colcon.specs.Answers.{countOf, stored, Stored}
-use Rattle.chg_colcon.specs.declared.BandAnswer.the-variants as C
+use Rattle.chg_colcon.specs.declared.BandAnswer.the-variants as band-answer
 use Rattle.chg_colcon.specs.declared.Header.{Header}
 use Rattle.chg_colcon.specs.declared.Header.the-variants as H
 use Rattle.chg_colcon.specs.declared.EntryRead.{EntryRead}
 use Rattle.chg_colcon.specs.declared.EntryRead.the-variants as E
 
 -- the rest after k bytes, as a part of a slice has it
-pub part : (k : ℕ) (s : List ℕ) → take (length s - k) (drop k s) ≡ drop k s
-part k s =
+pub take-rest : (k : ℕ) (s : List ℕ) → take (length s - k) (drop k s) ≡ drop k s
+take-rest k s =
     let l : length (drop k s) ≤ length s - k = rw (length-drop k s) (omega arith) in
     take-all (length s - k) (drop k s) l
 
@@ -76,7 +76,7 @@ entry-room s lo c x a e = go (ltb (length s) 6) refl _ e
 -- three words in front
 pub count-push : (n x y z : ℕ) (g : Res (List ℕ)) → countOf (n + 3) g ≡ countOf n (push3 x y z g)
 count-push n x y z (refuse k) = refl
-count-push n x y z (ok ws) = ap C.Words (omega arith)
+count-push n x y z (ok ws) = ap band-answer.Words (omega arith)
 
 -- three stores, and then the rest's
 pub sets3 : (l : List ℕ) (i x y z : ℕ) (ws : List ℕ) → sets (set (set (set l i x) (i + 1) y) (i + 2) z) (i + 3) ws ≡ sets l i (x ∷ y ∷ z ∷ ws)
@@ -91,19 +91,19 @@ module _ (s : List ℕ) where
   band-bad e = rw (bands-step s, e)
 
   pub band-none : (f l k : ℕ) → headOf s ≡ H.Band f l k → k ≡ 0 → bandsOf s ≡ push3 f l k (bandsOf (take (length s - 4) (drop 4 s)))
-  band-none f l k e z = rw (part 4 s, bands-step s, e, eq-eqb k 0 z)
+  band-none f l k e z = rw (take-rest 4 s, bands-step s, e, eq-eqb k 0 z)
 
   pub band-some : (f l k : ℕ) → headOf s ≡ H.Band f l k → (k ≡ 0 → ⊥) → bandsOf s ≡ push3 f l k (entriesOf (take (length s - 4) (drop 4 s)) k 0)
-  band-some f l k e z = rw (part 4 s, bands-step s, e, ne-eqb k 0 z)
+  band-some f l k e z = rw (take-rest 4 s, bands-step s, e, ne-eqb k 0 z)
 
   pub entry-bad : (n lo : ℕ) → entryOf s lo ≡ E.Bad → entriesOf s n lo ≡ refuse no-band-list
   entry-bad n lo e = rw (entries-step s n lo, e)
 
   pub entry-last : (n lo c x a : ℕ) → entryOf s lo ≡ E.Got c x a → n ≡ 1 → entriesOf s n lo ≡ push3 c x a (bandsOf (take (length s - 6) (drop 6 s)))
-  entry-last n lo c x a e z = rw (part 6 s, entries-step s n lo, e, eq-eqb n 1 z)
+  entry-last n lo c x a e z = rw (take-rest 6 s, entries-step s n lo, e, eq-eqb n 1 z)
 
   pub entry-more : (n lo c x a : ℕ) → entryOf s lo ≡ E.Got c x a → (n ≡ 1 → ⊥) → entriesOf s n lo ≡ push3 c x a (entriesOf (take (length s - 6) (drop 6 s)) (n - 1) (c + 1))
-  entry-more n lo c x a e z = rw (part 6 s, entries-step s n lo, e, ne-eqb n 1 z)
+  entry-more n lo c x a e z = rw (take-rest 6 s, entries-step s n lo, e, ne-eqb n 1 z)
 
 -- a list that is three words and then g's
 pub pushed : (h g : Res (List ℕ)) (x y z : ℕ) → h ≡ push3 x y z g → IsOk h → IsOk g × (listed h ≡ x ∷ y ∷ z ∷ listed g)
@@ -121,38 +121,38 @@ entry-three s n lo c x a e = three (entriesOf s n lo) (cond (eqb n 1) (bandsOf (
 
 -- ---- Bands stored
 
-pub counted : (g : Res (List ℕ)) (n : ℕ) → countOf 0 g ≡ C.Words n → IsOk g × (length (listed g) ≡ n)
+pub counted : (g : Res (List ℕ)) (n : ℕ) → countOf 0 g ≡ band-answer.Words n → IsOk g × (length (listed g) ≡ n)
 counted (refuse k) n e = let z : _≡_ {A = ℕ} 0 1 = cc in absurd (omega arith)
 counted (ok ws) n e =
     let q : 0 + length ws ≡ n = cc in
     (tt, omega arith)
 
 module _ (s : List ℕ) (at : ℕ) (ws : List ℕ) where
-  pub stored-words : (n : ℕ) (ws′ : List ℕ) → countOf 0 (bandsOf s) ≡ C.Words n → at + n ≤ length ws → ws′ ≡ sets ws at (listed (bandsOf s))
-      → Stored s at ws (C.Words n) ws′
+  pub stored-words : (n : ℕ) (ws′ : List ℕ) → countOf 0 (bandsOf s) ≡ band-answer.Words n → at + n ≤ length ws → ws′ ≡ sets ws at (listed (bandsOf s))
+      → Stored s at ws (band-answer.Words n) ws′
   unfolding stored
   stored-words n ws′ e b f = go (bandsOf s) refl e f
     where
-      go : (g : Res (List ℕ)) → bandsOf s ≡ g → countOf 0 g ≡ C.Words n → ws′ ≡ sets ws at (listed g) → Stored s at ws (C.Words n) ws′
+      go : (g : Res (List ℕ)) → bandsOf s ≡ g → countOf 0 g ≡ band-answer.Words n → ws′ ≡ sets ws at (listed g) → Stored s at ws (band-answer.Words n) ws′
       go (refuse k) q e f = let z : _≡_ {A = ℕ} 0 1 = cc in absurd (omega arith)
       go (ok v) q e f =
           let l : at + length v ≤ length ws = omega (arith, counted (ok v) n e .1) in
           record { answer = rw (q, le-leb (at + length v) (length ws) l) (sym e); words = rw (q, le-leb (at + length v) (length ws) l) f }
 
-  pub stored-short : (n : ℕ) → countOf 0 (bandsOf s) ≡ C.Words n → length ws < at + n → Stored s at ws (C.Refused short-words) ws
+  pub stored-short : (n : ℕ) → countOf 0 (bandsOf s) ≡ band-answer.Words n → length ws < at + n → Stored s at ws (band-answer.Refused short-words) ws
   unfolding stored
   stored-short n e b = go (bandsOf s) refl e
     where
-      go : (g : Res (List ℕ)) → bandsOf s ≡ g → countOf 0 g ≡ C.Words n → Stored s at ws (C.Refused short-words) ws
+      go : (g : Res (List ℕ)) → bandsOf s ≡ g → countOf 0 g ≡ band-answer.Words n → Stored s at ws (band-answer.Refused short-words) ws
       go (refuse k) q e = let z : _≡_ {A = ℕ} 0 1 = cc in absurd (omega arith)
       go (ok v) q e =
           let l : length ws < at + length v = omega (arith, counted (ok v) n e .1) in
           record { answer = rw (q, lt-leb (at + length v) (length ws) l); words = rw (q, lt-leb (at + length v) (length ws) l) }
 
-  pub stored-none : (k : ℕ) → countOf 0 (bandsOf s) ≡ C.Refused k → Stored s at ws (C.Refused k) ws
+  pub stored-none : (k : ℕ) → countOf 0 (bandsOf s) ≡ band-answer.Refused k → Stored s at ws (band-answer.Refused k) ws
   unfolding stored
   stored-none k e = go (bandsOf s) refl e
     where
-      go : (g : Res (List ℕ)) → bandsOf s ≡ g → countOf 0 g ≡ C.Refused k → Stored s at ws (C.Refused k) ws
+      go : (g : Res (List ℕ)) → bandsOf s ≡ g → countOf 0 g ≡ band-answer.Refused k → Stored s at ws (band-answer.Refused k) ws
       go (ok v) q e = let z : _≡_ {A = ℕ} 0 1 = cc in absurd (omega arith)
       go (refuse m) q e = record { answer = rw q (sym e); words = rw q }

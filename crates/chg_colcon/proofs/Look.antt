@@ -6,13 +6,14 @@ use mathlib.Core.Path.{_≡_, refl, ap, sym, _∙_}
 use mathlib.Core.Bool.{Bool, true, false, cond, _&&_}
 use mathlib.Core.Logic.{⊎-elim}
 use mathlib.Core.Option.{Option}
-use mathlib.Core.List.{List, [], _∷_, _++_}
+use mathlib.Core.List.{List, [], _∷_, _++_, append-assoc}
 use lib.Dec.{leb}
 use lib.ListN.{length, getD, drop, length-drop}
 use lib.Seq.{drop-cons, drop-drop}
 use Rattle.outcome.proofs.Laws.{le-or-lt}
 use Rattle.grammar.specs.Bands.{Entry, Band, Bands, entryWords, bandWords, bandEnd}
 use Rattle.grammar.specs.Look.{Look, rightmost, lastLook, lookAt}
+use Rattle.chg_colcon.specs.Claim.{Counted}
 use Rattle.chg_colcon.specs.Look.{pickEntry, looking, lookWords, entriesLook, bandLook}
 
 -- three words at a place
@@ -109,16 +110,32 @@ words-entries x y false o [] ws = refl
 words-entries x y true o (e ∷ es) ws = words-entries x y true (pickEntry x (e .column) (e .selectors) (e .alphas) o) es ws
 words-entries x y false o (e ∷ es) ws = words-entries x y false o es ws
 
-words-bands : (u : List ℕ) (e p x y : ℕ) (s : Bool) (o : Option Look) (bs : List Band) → Bands u e p bs → looking x y 0 s o (bandWords bs) ≡ lastLook x y o bs
-unfolding Bands bandWords looking lastLook
-words-bands u e p x y s o [] h = refl
-words-bands u e p x y s o (b ∷ bs) h =
+words-bands : (x y : ℕ) (s : Bool) (o : Option Look) (bs : List Band) → Counted bs → looking x y 0 s o (bandWords bs) ≡ lastLook x y o bs
+unfolding Counted bandWords looking lastLook
+words-bands x y s o [] h = refl
+words-bands x y s o (b ∷ bs) h =
     let t : Bool = leb (b .first) y && leb y (b .last) in
-    rw (← h .1 .all)
-    (words-entries x y t o (b .entries) (bandWords bs)
-    ∙ words-bands u e (bandEnd b) x y t (cond t (rightmost x o (b .entries)) o) bs (h .2))
+    rw (← h .0) (words-entries x y t o (b .entries) (bandWords bs) ∙ words-bands x y t (cond t (rightmost x o (b .entries)) o) bs (h .1))
 
--- what stored bands give is what the listed bands give
-pub look-listed : (u : List ℕ) (e p x y : ℕ) (bs : List Band) → Bands u e p bs → lookWords x y (bandWords bs) ≡ lookAt x y bs
+-- what stored bands give is what the listed bands give, those of one payload or of several
+pub look-listed : (x y : ℕ) (bs : List Band) → Counted bs → lookWords x y (bandWords bs) ≡ lookAt x y bs
 unfolding lookWords lookAt
-look-listed u e p x y bs h = words-bands u e p x y false _ bs h
+look-listed x y bs h = words-bands x y false _ bs h
+
+pub bands-counted : (u : List ℕ) (e p : ℕ) (bs : List Band) → Bands u e p bs → Counted bs
+unfolding Bands Counted
+bands-counted u e p [] h = tt
+bands-counted u e p (b ∷ bs) h = (h .1 .all, bands-counted u e (bandEnd b) bs (h .2))
+
+pub counted-join : (cs bs : List Band) → Counted cs → Counted bs → Counted (cs ++ bs)
+unfolding Counted
+counted-join [] bs g h = h
+counted-join (a ∷ cs) bs g h = (g .0, counted-join cs bs (g .1) h)
+
+-- joined bands are stored one payload after the other
+pub words-join : (cs bs : List Band) → bandWords (cs ++ bs) ≡ bandWords cs ++ bandWords bs
+unfolding bandWords
+words-join [] bs = refl
+words-join (a ∷ cs) bs =
+    ap (λ (l : List ℕ). a .first ∷ a .last ∷ a .count ∷ l)
+    (ap (λ (l : List ℕ). entryWords (a .entries) ++ l) (words-join cs bs) ∙ sym (append-assoc (entryWords (a .entries)) (bandWords cs) (bandWords bs)))

@@ -4,7 +4,7 @@ use outcome::NO_BAND_LIST;
 use outcome::SHORT_WORDS;
 ghost use mathlib.Core.Path.{_≡_};
 ghost use Prim.Native.Nat.{ℕ, _≤_, _<_, _-_, _+_, _*_, _^_, min};
-ghost use lib.ListN.{length, getD, take, drop, set};
+ghost use lib.ListN.{length, getD, drop, set};
 ghost use lib.Seq.{sets};
 ghost use Rattle.outcome.specs.Outcome.{IsOk, listed};
 ghost use Rattle.chg_colcon.specs.Bands.{wordOf, header, headOf, entryOf, bandsOf, entriesOf};
@@ -31,6 +31,7 @@ enum Header {
 
 // What stands where an entry must stand.
 enum EntryRead {
+    // No entry, or one that starts too far left.
     Bad,
     // Column, selectors, alphas.
     Got(u16, u16, u16),
@@ -86,7 +87,7 @@ fn read_entry(p: &[u8], lo: u32) -> EntryRead
     EntryRead::Got(col, word(p[2], p[3]), word(p[4], p[5]))
 }
 
-// How many words the band list has, `n` more, or that it is none.
+// The number of words of the band list and `n` more, or that there is no list.
 fn count_header(p: &[u8], n: usize) -> BandAnswer
     requires { ⌜ n + length (now p) < 2 ^ 64 ⌝ }
     ensures { λ r. ⌜ r ≡ countOf n (bandsOf (now (p .entry))) ⌝ }
@@ -231,10 +232,11 @@ fn look_entries(words: &[u16], from: usize, n: usize, x: u16, before: LookAnswer
     look
 }
 
-// The same for a band of these lines, where it spans line y.
+// The same for the band whose header is the three words before `from`, where it spans line y.
 fn look_band(words: &[u16], from: usize, n: usize, x: u16, y: u16, before: LookAnswer) -> LookAnswer
     requires { ⌜ (3 ≤ from) × (from + 3 * n ≤ length (now words)) ⌝ }
-    ensures { λ r. ⌜ told r ≡ bandLook x y (getD (now (words .entry)) (from - 3) 0) (getD (now (words .entry)) (from - 2) 0) n (told before) (drop from (now (words .entry))) ⌝ }
+    ensures { λ r. ⌜ told r ≡ bandLook x y (getD (now (words .entry)) (from - 3) 0) (getD (now (words .entry)) (from - 2) 0) n (told before)
+        (drop from (now (words .entry))) ⌝ }
 {
     let first = words[from - 3];
     let last = words[from - 2];

@@ -128,6 +128,7 @@ fn lists() {
     row(b"last line below the first", &[0, 2, 0, 1], 0, 4);
     row(b"0FFF 0FFF is a band", &[0x0F, 0xFF, 0x0F, 0xFF], 0, 4);
     row(b"0FFF FFFE is none", &[0x0F, 0xFF, 0xFF, 0xFE], 0, 4);
+    row(b"1FFF FFFF is none", &[0x1F, 0xFF, 0xFF, 0xFF], 0, 4);
     row(b"a first nibble that is not 0", &[0x10, 1, 0, 2], 0, 4);
     row(
         b"bands before the end mark",
@@ -141,6 +142,18 @@ fn entries() {
     row(
         b"one entry",
         &[0x01, 0x23, 0x14, 0x56, 0x78, 0x9A, 0x01, 0x23, 0xFE, 0xDC],
+        0,
+        7,
+    );
+    row(
+        b"line 4095 with one entry",
+        &[0x0F, 0xFF, 0x1F, 0xFF, 0, 5, 0x12, 0x34, 0x56, 0x78],
+        0,
+        7,
+    );
+    row(
+        b"no end mark inside an entry",
+        &[0, 1, 0x10, 2, 0x0F, 0xFF, 0xFF, 0xFF, 0, 0],
         0,
         7,
     );

@@ -1,6 +1,6 @@
--- Cards for what the grammar and the reader share, and the claim so does not guard: a code's run and colour, the fill, the clip,
--- alignment, pixels and the number of codes; words, what bands are stored as, and what they give at a place. One test over the table.
--- Assumes nothing.
+-- Cards for what listed parts give. The readers share some of it with the grammar, and the claim so does not guard it: a code's run and
+-- colour, the fill, the clip, alignment, pixels, the number of codes. The rest: words, what bands are stored as, and what they give at a
+-- place. One test over the table. Assumes nothing.
 use Prim.Native.Nat.{ℕ}
 use mathlib.Core.Path.{_≡_, refl}
 use mathlib.Core.List.{List, [], _∷_, map}

@@ -10,6 +10,7 @@ const MOST_PAYLOAD: usize = 65533;
 
 // The bands in a payload, stored from place `at` of the lent words on, and how many words they take. Bytes that no size word can count are
 // no band list, which bounds the stack whatever a caller passes.
+// Ruled out: a count set on a refusal.
 #[no_mangle]
 pub extern "C" fn vobsub_parse_chg_colcon_payload(
     payload: &[u8],
