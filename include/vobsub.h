@@ -11,8 +11,7 @@ extern "C" {
 
 /* Reads the colour bands in payload, the payload_len bytes after a colour change's size word, and stores them as words from words[at] on.
    words has words_len words, and at may be any number. *count is set to the number of words stored; count is not null, and the three
-   regions do not overlap. On a refusal (19, 23) words and *count are as they were.
-   A payload of more than 65,533 bytes is refused with 19: no size word can count it. The call takes up to 1.3 MiB of stack. */
+   regions do not overlap. On a refusal (19, 23) words and *count are as they were. */
 uint8_t vobsub_parse_chg_colcon_payload(const uint8_t *payload, size_t payload_len,
                                         uint16_t *words, size_t words_len,
                                         size_t at, size_t *count);

@@ -1,6 +1,6 @@
 -- Laws of the band list's definitions: a turn of reading, a turn of storing, and what is stored where it fits. Assumes nothing.
-use mathlib.Core.Path.{_≡_, refl, ap, sym, subst}
-use mathlib.Core.List.{List, [], _∷_}
+use mathlib.Core.Path.{_≡_, refl, ap, sym, subst, _∙_}
+use mathlib.Core.List.{List, [], _∷_, _++_, append-assoc}
 use mathlib.Core.Bool.{Bool, true, false, cond}
 use Rattle.outcome.specs.Outcome.{Res, ok, refuse, listed, IsOk, no-band-list, short-words}
 use Prim.Native.Nat.{ℕ, _+_, _-_, _<_, _≤_}
@@ -8,10 +8,14 @@ use native.Mathlib.Numerals.{add-one, add-two, add-three}
 use native.Mathlib.Omega.{arith}
 use borrow.Author.Tests.{eq-eqb, ne-eqb, le-ltb, le-leb, lt-leb, ltb-false}
 use lib.Dec.{ltb, eqb}
-use lib.ListN.{length, getD, drop, take, set, length-drop}
-use lib.Seq.{sets, take-all}
+use lib.ListN.{length, getD, drop, take, set, length-drop, length-append}
+use Rattle.outcome.proofs.Laws.{sets-append}
+use lib.Seq.{sets, take-all, drop-drop, length-sets}
 use Rattle.chg_colcon.specs.Bands.{wordOf, push3, header, headOf, entryOf, onHead, onEntry, bandsOf, entriesOf}
-use Rattle.chg_colcon.specs.Answers.{countOf, stored, Stored}
+use Rattle.chg_colcon.specs.Answers.{countOf, stored, Stored, pushes, restOf, lastOf, Part, Goes, ListRead}
+use Rattle.chg_colcon.specs.declared.Stop.{Stop}
+use Rattle.chg_colcon.specs.declared.Stop.the-variants as stop
+use Rattle.chg_colcon.specs.declared.BandAnswer.{BandAnswer}
 use Rattle.chg_colcon.specs.declared.BandAnswer.the-variants as band-answer
 use Rattle.chg_colcon.specs.declared.Header.{Header}
 use Rattle.chg_colcon.specs.declared.Header.the-variants as H
@@ -73,11 +77,6 @@ entry-room s lo c x a e = go (ltb (length s) 6) refl _ e
     go true q r e = let z : _≡_ {A = ℕ} 0 1 = cc in omega arith
     go false q r e = ltb-false (length s) 6 q
 
--- three words in front
-pub count-push : (n x y z : ℕ) (g : Res (List ℕ)) → countOf (n + 3) g ≡ countOf n (push3 x y z g)
-count-push n x y z (refuse k) = refl
-count-push n x y z (ok ws) = ap band-answer.Words (omega arith)
-
 -- three stores, and then the rest's
 pub sets3 : (l : List ℕ) (i x y z : ℕ) (ws : List ℕ) → sets (set (set (set l i x) (i + 1) y) (i + 2) z) (i + 3) ws ≡ sets l i (x ∷ y ∷ z ∷ ws)
 sets3 l i x y z ws = simp (add-one, add-two, add-three)
@@ -105,19 +104,157 @@ module _ (s : List ℕ) where
   pub entry-more : (n lo c x a : ℕ) → entryOf s lo ≡ E.Got c x a → (n ≡ 1 → ⊥) → entriesOf s n lo ≡ push3 c x a (entriesOf (take (length s - 6) (drop 6 s)) (n - 1) (c + 1))
   entry-more n lo c x a e z = rw (take-rest 6 s, entries-step s n lo, e, ne-eqb n 1 z)
 
--- a list that is three words and then g's
-pub pushed : (h g : Res (List ℕ)) (x y z : ℕ) → h ≡ push3 x y z g → IsOk h → IsOk g × (listed h ≡ x ∷ y ∷ z ∷ listed g)
-pushed h (refuse n) x y z e k = absurd (subst IsOk e k)
-pushed h (ok ws) x y z e k = (tt, ap listed e)
+-- ---- Where the readers stop
 
-three : (h g : Res (List ℕ)) (x y z : ℕ) → h ≡ push3 x y z g → IsOk h → 3 ≤ length (listed h)
-three h g x y z e k = omega (arith, ap length (pushed h g x y z e k .1))
+pushes-three : (x y z : ℕ) (ws : List ℕ) (h : Res (List ℕ)) → push3 x y z (pushes ws h) ≡ pushes (x ∷ y ∷ z ∷ ws) h
+pushes-three x y z ws (refuse k) = refl
+pushes-three x y z ws (ok v) = refl
 
-pub band-three : (s : List ℕ) (f l k : ℕ) → headOf s ≡ H.Band f l k → IsOk (bandsOf s) → 3 ≤ length (listed (bandsOf s))
-band-three s f l k e = three (bandsOf s) (cond (eqb k 0) (bandsOf (drop 4 s)) (entriesOf (drop 4 s) k 0)) f l k (rw (bands-step s, e))
+part-step : (g g′ h : Res (List ℕ)) (x y z at to : ℕ) (v v′ : List ℕ) → g ≡ push3 x y z g′
+    → Part g′ h (at + 3) to (set (set (set v at x) (at + 1) y) (at + 2) z) v′ → Part g h at to v v′
+part-step g g′ h x y z at to v v′ e p =
+    let ws = p .ws in
+    let l : to ≡ at + 3 + length ws = p .place in
+    record { ws = x ∷ y ∷ z ∷ ws; reads = e ∙ ap (push3 x y z) (p .reads) ∙ pushes-three x y z ws h; place = omega arith; words = p .words ∙ sets3 v at x y z ws }
 
-pub entry-three : (s : List ℕ) (n lo c x a : ℕ) → entryOf s lo ≡ E.Got c x a → IsOk (entriesOf s n lo) → 3 ≤ length (listed (entriesOf s n lo))
-entry-three s n lo c x a e = three (entriesOf s n lo) (cond (eqb n 1) (bandsOf (drop 6 s)) (entriesOf (drop 6 s) (n - 1) (c + 1))) c x a (rw (entries-step s n lo, e))
+last-drop : (k n : ℕ) (s : List ℕ) → n + k ≤ length s → lastOf n (drop k s) ≡ lastOf n s
+last-drop k n s l =
+    let e : k + (length (drop k s) - n) ≡ length s - n = rw (length-drop k s) (omega arith) in
+    drop-drop (length (drop k s) - n) k s ∙ ap (λ (j : ℕ). drop j s) e
+
+-- three words of k bytes, stored, and then what is read from the rest of them
+pub goes-step : (s : List ℕ) (k d : ℕ) (g g′ : Res (List ℕ)) (x y z at : ℕ) (v w v′ : List ℕ) (r : Stop) → k ≤ length s → 3 < k → (d ≡ 0 → ⊥)
+    → g ≡ push3 x y z g′ → w ≡ set (set (set v at x) (at + 1) y) (at + 2) z → Goes (take (length s - k) (drop k s)) (d - 1) g′ (at + 3) w r v′
+    → Goes s d g at v r v′
+unfolding Goes
+goes-step s k d g g′ x y z at v w v′ r l m p e f q = go r (subst (λ (t : List ℕ). Goes t (d - 1) g′ (at + 3) w r v′) (take-rest k s) q)
+  where
+    one : {h : Res (List ℕ)} {to : ℕ} → Part g′ h (at + 3) to w v′ → Part g h at to v v′
+    one {h} {to} q = part-step g g′ h x y z at to v v′ e (subst (λ (t : List ℕ). Part g′ h (at + 3) to t v′) f q)
+
+    go : (r : Stop) → Goes (drop k s) (d - 1) g′ (at + 3) w r v′ → Goes s d g at v r v′
+    go (stop.End to) q = one q
+    go stop.Bad q = e ∙ ap (push3 x y z) q
+    go (stop.More rest left lo to) q =
+        let a : rest + (d - 1) ≤ length s - k = rw (← length-drop k s) (q .1) in
+        let b : to + rest ≤ at + 3 + (length s - k) = rw (← length-drop k s) (q .2) in
+        (one (subst (λ (t : List ℕ). Part g′ (restOf t left lo) (at + 3) to w v′) (last-drop k rest s (omega arith)) (q .0)), omega arith, omega arith)
+
+-- nothing is read where no call is left
+pub goes-none : (s : List ℕ) (d left lo at : ℕ) (g : Res (List ℕ)) (v : List ℕ) → d ≡ 0 → g ≡ restOf s left lo → Goes s d g at v (stop.More (length s) left lo at) v
+unfolding Goes
+goes-none s d left lo at g v n e =
+    let z : length s - length s ≡ 0 = omega arith in
+    let f : lastOf (length s) s ≡ s = ap (λ (j : ℕ). drop j s) z in
+    (record { ws = []; reads = e ∙ pushes-none (restOf s left lo) ∙ ap (λ (t : List ℕ). pushes [] (restOf t left lo)) (sym f); place = omega arith; words = refl }, omega arith, omega arith)
+  where
+    pushes-none : (g : Res (List ℕ)) → g ≡ pushes [] g
+    pushes-none (refuse k) = refl
+    pushes-none (ok ws) = refl
+
+pub rest-bands : (s : List ℕ) (left lo : ℕ) → left ≡ 0 → bandsOf s ≡ restOf s left lo
+rest-bands s left lo e = rw (eq-eqb left 0 e)
+
+pub rest-entries : (s : List ℕ) (left lo : ℕ) → (left ≡ 0 → ⊥) → entriesOf s left lo ≡ restOf s left lo
+rest-entries s left lo n = rw (ne-eqb left 0 n)
+
+pub goes-end : (s : List ℕ) (d at : ℕ) (g : Res (List ℕ)) (v : List ℕ) → g ≡ ok [] → Goes s d g at v (stop.End at) v
+unfolding Goes
+goes-end s d at g v e = record { ws = []; reads = e; place = omega arith; words = refl }
+
+pub goes-bad : (s : List ℕ) (d at : ℕ) (g : Res (List ℕ)) (v v′ : List ℕ) → g ≡ refuse no-band-list → Goes s d g at v stop.Bad v′
+unfolding Goes
+goes-bad s d at g v v′ e = e
+
+pub goes-same : (s : List ℕ) (d at : ℕ) (g g′ : Res (List ℕ)) (v v′ : List ℕ) (r : Stop) → g ≡ g′ → Goes s d g at v r v′ → Goes s d g′ at v r v′
+goes-same s d at g g′ v v′ r e q = subst (λ (h : Res (List ℕ)). Goes s d h at v r v′) e q
+
+part-join : (g h k : Res (List ℕ)) (a b c : ℕ) (v w z : List ℕ) → Part g h a b v w → Part h k b c w z → Part g k a c v z
+part-join g h k a b c v w z p q =
+    let l : b ≡ a + length (p .ws) = p .place in
+    let m : c ≡ b + length (q .ws) = q .place in
+    record {
+      ws = p .ws ++ q .ws;
+      reads = p .reads ∙ ap (pushes (p .ws)) (q .reads) ∙ two k;
+      place = rw (length-append (p .ws) (q .ws)) (omega arith);
+      words = q .words ∙ ap (λ (t : List ℕ). sets t b (q .ws)) (p .words) ∙ rw l (sym (sets-append v a (p .ws) (q .ws)));
+    }
+  where
+    two : (k : Res (List ℕ)) → pushes (p .ws) (pushes (q .ws) k) ≡ pushes (p .ws ++ q .ws) k
+    two (refuse n) = refl
+    two (ok ws) = ap ok (sym (append-assoc (p .ws) (q .ws) ws))
+
+-- the readers have read g up to the last n bytes of s, and go on from there
+pub record Reading (s : List ℕ) (from : ℕ) (v : List ℕ) (n left lo at : ℕ) (v′ : List ℕ) : Type 0 where
+  pub there : n ≤ length s
+  pub room : at + n ≤ from + length s
+  pub part : Part (bandsOf s) (restOf (lastOf n s) left lo) from at v v′
+
+module _ (s : List ℕ) (from : ℕ) (v : List ℕ) where
+  pub reading-starts : Reading s from v (length s) 0 0 from v
+  unfolding Goes
+  reading-starts =
+      let q = goes-none s 0 0 0 from (bandsOf s) v refl refl in
+      record { there = omega arith; room = omega arith; part = q .0 }
+
+  pub reading-long : (n left lo at : ℕ) (w : List ℕ) → Reading s from v n left lo at w → length w ≡ length v
+  reading-long n left lo at w i = rw (i .part .words, length-sets)
+
+  module _ (n left lo at : ℕ) (w v′ : List ℕ) (i : Reading s from v n left lo at w) where
+    abbrev onward : List ℕ
+    onward = take (length s - (length s - n)) (drop (length s - n) s)
+
+    pub onward-is : onward ≡ lastOf n s
+    onward-is = take-rest (length s - n) s
+
+    pub onward-length : length onward ≡ n
+    onward-length = rw (onward-is, length-drop (length s - n) s) (let l = i .there in omega arith)
+
+    module _ (d : ℕ) (r : Stop) (q : Goes onward d (restOf onward left lo) at w r v′) where
+      told : (r′ : Stop) → r ≡ r′ → Goes onward d (restOf onward left lo) at w r′ v′
+      told r′ e = subst (λ (t : Stop). Goes onward d (restOf onward left lo) at w t v′) e q
+
+      pub reading-ends : (to : ℕ) → r ≡ stop.End to → Part (bandsOf s) (ok []) from to v v′
+      unfolding Goes
+      reading-ends to e = part-join (bandsOf s) (restOf (lastOf n s) left lo) (ok []) from at to v w v′ (i .part) (subst (λ (t : List ℕ). Part (restOf t left lo) (ok []) at to w v′) onward-is (told (stop.End to) e))
+
+      pub reading-fails : r ≡ stop.Bad → bandsOf s ≡ refuse no-band-list
+      unfolding Goes
+      reading-fails e = i .part .reads ∙ ap (pushes (i .part .ws)) (subst (λ (t : List ℕ). restOf t left lo ≡ refuse no-band-list) onward-is (told stop.Bad e))
+
+      module _ (n′ left′ lo′ to : ℕ) (e : r ≡ stop.More n′ left′ lo′ to) where
+        pub reading-less : n′ + d ≤ n
+        unfolding Goes
+        reading-less = rw (← onward-length) (told (stop.More n′ left′ lo′ to) e .1)
+
+        pub reading-goes : Reading s from v n′ left′ lo′ to v′
+        unfolding Goes
+        reading-goes =
+            let t = told (stop.More n′ left′ lo′ to) e in
+            let l : n′ ≤ n = let h = reading-less in omega arith in
+            let k = i .there in
+            let m = i .room in
+            let b : to + n′ ≤ at + n = rw (← onward-length) (t .2) in
+            let f = ap (lastOf n′) onward-is ∙ last-drop (length s - n) n′ s (omega arith) in
+            let h = subst (λ (t : List ℕ). Part (restOf t left lo) (restOf (lastOf n′ onward) left′ lo′) at to w v′) onward-is (t .0) in
+            let g = subst (λ (t : List ℕ). Part (restOf (lastOf n s) left lo) (restOf t left′ lo′) at to w v′) f h in
+            record { there = omega arith; room = omega arith; part = part-join (bandsOf s) (restOf (lastOf n s) left lo) (restOf (lastOf n′ s) left′ lo′) from at to v w v′ (i .part) g }
+
+pub list-ends : (s : List ℕ) (from to : ℕ) (v v′ : List ℕ) → Part (bandsOf s) (ok []) from to v v′ → ListRead s from v (band-answer.Words (to - from)) v′
+list-ends s from to v v′ p = record { answer = rw (e, l) (ap band-answer.Words (omega arith)); words = λ o. rw e (p .words) }
+  where
+    none : (ws : List ℕ) → ws ++ [] ≡ ws
+    none [] = refl
+    none (x ∷ ws) = ap (λ (t : List ℕ). x ∷ t) (none ws)
+
+    e : bandsOf s ≡ ok (p .ws)
+    e = p .reads ∙ ap ok (none (p .ws))
+
+    l : to ≡ from + length (p .ws)
+    l = p .place
+
+pub list-fails : (s : List ℕ) (from : ℕ) (v v′ : List ℕ) → bandsOf s ≡ refuse no-band-list → ListRead s from v (band-answer.Refused no-band-list) v′
+list-fails s from v v′ e = record { answer = rw e; words = λ o. absurd (subst IsOk e o) }
 
 -- ---- Bands stored
 
@@ -128,16 +265,15 @@ counted (ok ws) n e =
     (tt, omega arith)
 
 module _ (s : List ℕ) (at : ℕ) (ws : List ℕ) where
-  pub stored-words : (n : ℕ) (ws′ : List ℕ) → countOf 0 (bandsOf s) ≡ band-answer.Words n → at + n ≤ length ws → ws′ ≡ sets ws at (listed (bandsOf s))
-      → Stored s at ws (band-answer.Words n) ws′
+  pub stored-words : (n : ℕ) (r : BandAnswer) (ws′ : List ℕ) → countOf 0 (bandsOf s) ≡ band-answer.Words n → at + n ≤ length ws → ListRead s at ws r ws′ → Stored s at ws r ws′
   unfolding stored
-  stored-words n ws′ e b f = go (bandsOf s) refl e f
+  stored-words n r ws′ e b f = go (bandsOf s) refl e (f .answer) (f .words)
     where
-      go : (g : Res (List ℕ)) → bandsOf s ≡ g → countOf 0 g ≡ band-answer.Words n → ws′ ≡ sets ws at (listed g) → Stored s at ws (band-answer.Words n) ws′
-      go (refuse k) q e f = let z : _≡_ {A = ℕ} 0 1 = cc in absurd (omega arith)
-      go (ok v) q e f =
+      go : (g : Res (List ℕ)) → bandsOf s ≡ g → countOf 0 g ≡ band-answer.Words n → r ≡ countOf 0 g → (IsOk g → ws′ ≡ sets ws at (listed g)) → Stored s at ws r ws′
+      go (refuse k) q e f g = let z : _≡_ {A = ℕ} 0 1 = cc in absurd (omega arith)
+      go (ok v) q e f g =
           let l : at + length v ≤ length ws = omega (arith, counted (ok v) n e .1) in
-          record { answer = rw (q, le-leb (at + length v) (length ws) l) (sym e); words = rw (q, le-leb (at + length v) (length ws) l) f }
+          record { answer = rw (q, le-leb (at + length v) (length ws) l) f; words = rw (q, le-leb (at + length v) (length ws) l) (g tt) }
 
   pub stored-short : (n : ℕ) → countOf 0 (bandsOf s) ≡ band-answer.Words n → length ws < at + n → Stored s at ws (band-answer.Refused short-words) ws
   unfolding stored

@@ -6,9 +6,8 @@ ghost use mathlib.Core.Path.{_≡_};
 ghost use Prim.Native.Nat.{ℕ, _≤_, _<_, _-_, _+_, _*_, _^_, min};
 ghost use lib.ListN.{length, getD, drop, set};
 ghost use lib.Seq.{sets};
-ghost use Rattle.outcome.specs.Outcome.{IsOk, listed};
 ghost use Rattle.chg_colcon.specs.Bands.{wordOf, header, headOf, entryOf, bandsOf, entriesOf};
-ghost use Rattle.chg_colcon.specs.Answers.{countOf, Stored};
+ghost use Rattle.chg_colcon.specs.Answers.{countOf, Stored, restOf, Goes, ListRead};
 ghost use Rattle.chg_colcon.specs.Look.{told, pickEntry, entriesLook, bandLook, lookWords};
 
 // What a list of bands gives.
@@ -87,79 +86,133 @@ fn read_entry(p: &[u8], lo: u32) -> EntryRead
     EntryRead::Got(col, word(p[2], p[3]), word(p[4], p[5]))
 }
 
-// The number of words of the band list and `n` more, or that there is no list.
-fn count_header(p: &[u8], n: usize) -> BandAnswer
-    requires { ⌜ n + length (now p) < 2 ^ 64 ⌝ }
-    ensures { λ r. ⌜ r ≡ countOf n (bandsOf (now (p .entry))) ⌝ }
-{
-    match read_head(p) {
-        Header::End => BandAnswer::Words(n),
-        Header::Bad => BandAnswer::Refused(NO_BAND_LIST),
-        Header::Band(_, _, left) => {
-            if left == 0 {
-                return count_header(&p[4..], n + 3);
-            }
-            count_entry(&p[4..], left, 0, n + 3)
-        }
-    }
+// The readers below call each other at most so often before they hand back, which bounds the stack they take.
+const DEEPEST: usize = 64;
+
+// Where the header and entry readers stop.
+enum Stop {
+    // At the end of the list: the place after its last word.
+    End(usize),
+    // Where there is no list.
+    Bad,
+    // After `DEEPEST` calls: the bytes to go, the entries to go of a band (0 where a header is next), the least column of the next, and the
+    // place after the last word.
+    More {
+        rest: usize,
+        left: u16,
+        lo: u32,
+        at: usize,
+    },
 }
 
-fn count_entry(p: &[u8], left: u16, lo: u32, n: usize) -> BandAnswer
-    requires { ⌜ (1 ≤ left) × (n + length (now p) < 2 ^ 64) ⌝ }
-    ensures { λ r. ⌜ r ≡ countOf n (entriesOf (now (p .entry)) left lo) ⌝ }
+// A word stored at a place, where there is room for it.
+fn put(out: &mut [u16], at: usize, word: u16)
+    ensures { λ _. ⌜ now (out .exit) ≡ set (now (out .entry)) at word ⌝ }
 {
-    match read_entry(p, lo) {
-        EntryRead::Bad => BandAnswer::Refused(NO_BAND_LIST),
-        EntryRead::Got(col, _, _) => {
-            if left == 1 {
-                return count_header(&p[6..], n + 3);
-            }
-            count_entry(&p[6..], left - 1, col as u32 + 1, n + 3)
-        }
+    if at < out.len() {
+        out[at] = word;
     }
 }
 
 // Three words from `at` on.
 fn put3(out: &mut [u16], at: usize, a: u16, b: u16, c: u16)
-    requires { ⌜ at + 3 ≤ length (now out) ⌝ }
+    requires { ⌜ at + 2 < 2 ^ 64 ⌝ }
     ensures { λ _. ⌜ now (out .exit) ≡ set (set (set (now (out .entry)) at a) (at + 1) b) (at + 2) c ⌝ }
 {
-    out[at] = a;
-    out[at + 1] = b;
-    out[at + 2] = c;
+    put(out, at, a);
+    put(out, at + 1, b);
+    put(out, at + 2, c);
 }
 
-// Writes the words of the band list into `out` from `at` on.
-fn fill_header(p: &[u8], out: &mut [u16], at: usize)
-    requires { ⌜ (IsOk (bandsOf (now p))) × (at + length (listed (bandsOf (now p))) ≤ length (now out)) ⌝ }
-    ensures { λ _. ⌜ now (out .exit) ≡ sets (now (out .entry)) at (listed (bandsOf (now (p .entry)))) ⌝ }
+// Reads the bands from a header on, `deep` calls deep, and stores their words from `at` on where there is room.
+fn bands_from(p: &[u8], deep: usize, out: &mut [u16], at: usize) -> Stop
+    requires { ⌜ at + length (now p) < 2 ^ 64 ⌝ }
+    ensures { λ r. ⌜ Goes (now (p .entry)) deep (bandsOf (now (p .entry))) at (now (out .entry)) r (now (out .exit)) ⌝ }
 {
+    if deep == 0 {
+        return Stop::More {
+            rest: p.len(),
+            left: 0,
+            lo: 0,
+            at,
+        };
+    }
     match read_head(p) {
-        Header::End => {}
-        Header::Bad => {}
+        Header::End => Stop::End(at),
+        Header::Bad => Stop::Bad,
         Header::Band(first, last, left) => {
             put3(out, at, first, last, left);
             if left == 0 {
-                fill_header(&p[4..], out, at + 3);
-            } else {
-                fill_entry(&p[4..], left, 0, out, at + 3);
+                return bands_from(&p[4..], deep - 1, out, at + 3);
             }
+            entries_from(&p[4..], left, 0, deep - 1, out, at + 3)
         }
     }
 }
 
-fn fill_entry(p: &[u8], left: u16, lo: u32, out: &mut [u16], at: usize)
-    requires { ⌜ (1 ≤ left) × (IsOk (entriesOf (now p) left lo)) × (at + length (listed (entriesOf (now p) left lo)) ≤ length (now out)) ⌝ }
-    ensures { λ _. ⌜ now (out .exit) ≡ sets (now (out .entry)) at (listed (entriesOf (now (p .entry)) left lo)) ⌝ }
+// The same from an entry on, with `left` entries of a band to go, of which the next starts at column lo or right of it.
+fn entries_from(p: &[u8], left: u16, lo: u32, deep: usize, out: &mut [u16], at: usize) -> Stop
+    requires { ⌜ (1 ≤ left) × (at + length (now p) < 2 ^ 64) ⌝ }
+    ensures { λ r. ⌜ Goes (now (p .entry)) deep (entriesOf (now (p .entry)) left lo) at (now (out .entry)) r (now (out .exit)) ⌝ }
 {
+    if deep == 0 {
+        return Stop::More {
+            rest: p.len(),
+            left,
+            lo,
+            at,
+        };
+    }
     match read_entry(p, lo) {
-        EntryRead::Bad => {}
+        EntryRead::Bad => Stop::Bad,
         EntryRead::Got(col, selectors, alphas) => {
             put3(out, at, col, selectors, alphas);
             if left == 1 {
-                fill_header(&p[6..], out, at + 3);
-            } else {
-                fill_entry(&p[6..], left - 1, col as u32 + 1, out, at + 3);
+                return bands_from(&p[6..], deep - 1, out, at + 3);
+            }
+            entries_from(&p[6..], left - 1, col as u32 + 1, deep - 1, out, at + 3)
+        }
+    }
+}
+
+// Goes on where the readers stopped.
+fn go_on(p: &[u8], left: u16, lo: u32, out: &mut [u16], at: usize) -> Stop
+    requires { ⌜ at + length (now p) < 2 ^ 64 ⌝ }
+    ensures { λ r. ⌜ Goes (now (p .entry)) 64 (restOf (now (p .entry)) left lo) at (now (out .entry)) r (now (out .exit)) ⌝ }
+{
+    if left == 0 {
+        return bands_from(p, DEEPEST, out, at);
+    }
+    entries_from(p, left, lo, DEEPEST, out, at)
+}
+
+// The number of words of the band list, stored from `from` on where there is room.
+fn read_list(payload: &[u8], out: &mut [u16], from: usize) -> BandAnswer
+    requires { ⌜ from + length (now payload) < 2 ^ 64 ⌝ }
+    ensures { λ r. ⌜ ListRead (now (payload .entry)) from (now (out .entry)) r (now (out .exit)) ⌝ }
+{
+    let mut rest = payload.len();
+    let mut left: u16 = 0;
+    let mut lo: u32 = 0;
+    let mut at = from;
+    loop {
+        match go_on(&payload[payload.len() - rest..], left, lo, out, at) {
+            Stop::End(to) => {
+                return BandAnswer::Words(to - from);
+            }
+            Stop::Bad => {
+                return BandAnswer::Refused(NO_BAND_LIST);
+            }
+            Stop::More {
+                rest: bytes,
+                left: entries,
+                lo: column,
+                at: place,
+            } => {
+                rest = bytes;
+                left = entries;
+                lo = column;
+                at = place;
             }
         }
     }
@@ -170,7 +223,8 @@ fn fill_entry(p: &[u8], left: u16, lo: u32, out: &mut [u16], at: usize)
 pub fn count_words(payload: &[u8]) -> BandAnswer
     ensures { λ r. ⌜ r ≡ countOf 0 (bandsOf (now (payload .entry))) ⌝ }
 {
-    count_header(payload, 0)
+    let mut none = [0u16; 1];
+    read_list(payload, &mut none, 0)
 }
 
 // The bands in a payload, stored from place `at` of the lent words on. On a refusal the words are as found.
@@ -182,8 +236,7 @@ pub fn parse_chg_colcon_payload(payload: &[u8], words: &mut [u16], at: usize) ->
         BandAnswer::Words(n) => {
             if at <= words.len() {
                 if n <= words.len() - at {
-                    fill_header(payload, words, at);
-                    return BandAnswer::Words(n);
+                    return read_list(payload, words, at);
                 }
             }
             BandAnswer::Refused(SHORT_WORDS)

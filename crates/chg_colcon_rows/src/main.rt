@@ -68,6 +68,35 @@ fn row(name: &[u8], payload: &[u8], at: usize, room: usize) {
     stored_front(payload, &mut words, at, room);
 }
 
+// A payload of 60 bands without entries and one of 15, of which the seventh starts at `column` and each other one at its number. The readers
+// hand back after 64 calls, so within the last band.
+fn across(name: &[u8], column: u8) {
+    let mut payload = [0u8; 334];
+    payload[242] = 0xF0;
+    let mut i: usize = 0;
+    while i < 15 {
+        payload[245 + 6 * i] = i as u8;
+        payload[247 + 6 * i] = 16 + i as u8;
+        i += 1;
+    }
+    payload[281] = column;
+    let mut words = [FOUND; 229];
+    io::write_all(STDOUT_FILENO, name);
+    match chg_colcon::parse_chg_colcon_payload(&payload, &mut words, 0) {
+        BandAnswer::Words(n) => {
+            io::write_all(STDOUT_FILENO, b": words ");
+            number(n);
+        }
+        BandAnswer::Refused(n) => {
+            io::write_all(STDOUT_FILENO, b": refused ");
+            number(n as usize);
+        }
+    }
+    io::write_all(STDOUT_FILENO, b", the last 49");
+    all_words(&words[180..]);
+    io::write_all(STDOUT_FILENO, b"\n");
+}
+
 // What words give at column x of line y.
 fn look(words: &[u16], x: u16, y: u16) {
     match chg_colcon::chg_colcon_lookup(words, x, y) {
@@ -512,6 +541,8 @@ fn main() {
     lists();
     entries();
     fifteen();
+    across(b"61 bands", 6);
+    across(b"61 bands, two columns of the last equal", 5);
     places();
     lookups();
     other_words();

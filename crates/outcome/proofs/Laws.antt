@@ -1,11 +1,13 @@
--- What an answer says of its parts. Assumes nothing.
-use Prim.Native.Nat.{ℕ, _≤_, _<_}
+-- What an answer says of its parts, and stores in a list. Assumes nothing.
+use Prim.Native.Nat.{ℕ, suc, _+_, _≤_, _<_}
 use native.Mathlib.Omega.{arith}
 use mathlib.Core.Path.{_≡_, refl, sym, ap}
 use mathlib.Core.Bool.{Bool, true, false}
 use mathlib.Core.Logic.{_⊎_, inl, inr}
-use mathlib.Core.List.{List, _∷_}
+use mathlib.Core.List.{List, [], _∷_, _++_}
 use lib.Dec.{leb}
+use lib.ListN.{length, set}
+use lib.Seq.{sets}
 use borrow.Author.Tests.{leb-true, leb-false}
 use Rattle.outcome.specs.Outcome.{Res, ok, refuse, check, andThen, consRes}
 
@@ -46,3 +48,10 @@ le-or-lt a b = go (leb a b) refl
     go : (t : Bool) → leb a b ≡ t → (a ≤ b) ⊎ (b < a)
     go true e = inl (leb-true a b e)
     go false e = inr (leb-false a b e)
+
+-- stores one after the other
+pub sets-append : (l : List ℕ) (i : ℕ) (a b : List ℕ) → sets l i (a ++ b) ≡ sets (sets l i a) (i + length a) b
+sets-append l i [] b = let z : i + 0 ≡ i = omega arith in rw z
+sets-append l i (x ∷ a) b =
+    let z : i + suc (length a) ≡ suc i + length a = omega arith in
+    rw z (sets-append (set l i x) (suc i) a b)

@@ -18,7 +18,8 @@ use Rattle.rle.specs.declared.Cursor.{Cursor}
 use Rattle.rle.specs.declared.Counts.{Counts}
 use Rattle.rle.specs.declared.FieldAnswer.the-variants as field-answer
 use Rattle.rle.proofs.Laws.{paints-le, row-none, field-iff}
-use Rattle.rle.proofs.Turns.{Coded, Rowed, row-turn, field-turn, sets-append, blank}
+use Rattle.outcome.proofs.Laws.{sets-append}
+use Rattle.rle.proofs.Turns.{Coded, Rowed, row-turn, field-turn, blank}
 
 -- ---- Keeping
 

@@ -6,12 +6,12 @@ use native.Mathlib.Omega.{arith, not-le}
 use mathlib.Core.Path.{_≡_, refl, sym, ap, _∙_, subst}
 use mathlib.Core.Bool.{true, false}
 use mathlib.Core.Logic.{⊎-elim, _↔_}
-use mathlib.Core.List.{List, [], _∷_, _++_}
+use mathlib.Core.List.{List, [], _∷_}
 use lib.ListN.{length, set, replicate, length-replicate}
 use lib.Seq.{sets}
 use lib.Dec.{leb}
 use borrow.Author.Tests.{le-leb, lt-leb}
-use Rattle.outcome.proofs.Laws.{le-or-lt}
+use Rattle.outcome.proofs.Laws.{le-or-lt, sets-append}
 use Rattle.outcome.specs.Outcome.{Res, ok, refuse, andThen, consRes, listed, IsOk, short-pixels, field-ran-out}
 use Rattle.grammar.specs.Bytes.{nibble, nibbles}
 use Rattle.grammar.specs.Rows.{Code, code, IsCode, paints, RowCodes, afterCodes, align}
@@ -94,13 +94,6 @@ pub at-most-counted : (p k left : ℕ) (c : Code) (a : Counts) → 1 ≤ k → A
 at-most-counted p k left c a h l = omega arith
 
 -- ---- Stores
-
--- stores one after the other
-pub sets-append : (l : List ℕ) (i : ℕ) (a b : List ℕ) → sets l i (a ++ b) ≡ sets (sets l i a) (i + length a) b
-sets-append l i [] b = let z : i + 0 ≡ i = omega arith in rw z
-sets-append l i (x ∷ a) b =
-    let z : i + suc (length a) ≡ suc i + length a = omega arith in
-    rw z (sets-append (set l i x) (suc i) a b)
 
 -- a turn of a run
 pub run-more : (px : List ℕ) (o i n v : ℕ) → i < n

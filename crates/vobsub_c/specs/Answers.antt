@@ -2,10 +2,8 @@
 use Prim.Native.Nat.{ℕ}
 use mathlib.Core.Path.{_≡_}
 use mathlib.Core.List.{List}
-use lib.Dec.{leb}
-use lib.ListN.{length}
 use lib.Seq.{sets}
-use Rattle.outcome.specs.Outcome.{Res, check, listed, no-band-list}
+use Rattle.outcome.specs.Outcome.{listed}
 use Rattle.chg_colcon.specs.Answers.{countOf, stored}
 use Rattle.chg_colcon.specs.declared.BandAnswer.{BandAnswer}
 use Rattle.chg_colcon.specs.declared.BandAnswer.the-variants as band-answer
@@ -20,11 +18,7 @@ abbrev pub bandCount : BandAnswer → ℕ → ℕ
 bandCount (band-answer.Words n) before = n
 bandCount (band-answer.Refused k) before = before
 
--- what a size word can count is read, and longer payloads are no band list (FORMAT 4.1)
-abbrev pub storedWithin : List ℕ → ℕ → List ℕ → Res (List ℕ)
-storedWithin payload at words = check (leb (length payload) 65533) no-band-list (stored payload at words)
-
 pub record BandsGiven (payload words : List ℕ) (at count r : ℕ) (words′ : List ℕ) (count′ : ℕ) : Type 0 where
-  pub refusal : r ≡ bandRefusal (countOf 0 (storedWithin payload at words))
-  pub counted : count′ ≡ bandCount (countOf 0 (storedWithin payload at words)) count
-  pub stores : words′ ≡ sets words at (listed (storedWithin payload at words))
+  pub refusal : r ≡ bandRefusal (countOf 0 (stored payload at words))
+  pub counted : count′ ≡ bandCount (countOf 0 (stored payload at words)) count
+  pub stores : words′ ≡ sets words at (listed (stored payload at words))

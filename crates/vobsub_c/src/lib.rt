@@ -1,15 +1,10 @@
 // The functions exported for C and Rust, thin over those of the layers: an answer is its refusal, 0 where there is none, and its value
 // goes where the caller says, which is as found on a refusal.
 use chg_colcon::BandAnswer;
-use outcome::NO_BAND_LIST;
 ghost use mathlib.Core.Path.{_≡_};
 ghost use Rattle.vobsub_c.specs.Answers.{BandsGiven};
 
-// A colour change's size word counts itself and at most so many bytes after it.
-const MOST_PAYLOAD: usize = 65533;
-
-// The bands in a payload, stored from place `at` of the lent words on, and how many words they take. Bytes that no size word can count are
-// no band list, which bounds the stack whatever a caller passes.
+// The bands in a payload, stored from place `at` of the lent words on, and how many words they take.
 // Ruled out: a count set on a refusal.
 #[no_mangle]
 pub extern "C" fn vobsub_parse_chg_colcon_payload(
@@ -20,9 +15,6 @@ pub extern "C" fn vobsub_parse_chg_colcon_payload(
 ) -> u8
     ensures { λ r. ⌜ BandsGiven (now (payload .entry)) (now (words .entry)) at (now (count .entry)) r (now (words .exit)) (now (count .exit)) ⌝ }
 {
-    if MOST_PAYLOAD < payload.len() {
-        return NO_BAND_LIST;
-    }
     match chg_colcon::parse_chg_colcon_payload(payload, words, at) {
         BandAnswer::Words(n) => {
             *count = n;

@@ -1,10 +1,8 @@
--- `chg_colcon::parse_chg_colcon_payload` meets its contract: counted, and filled only where the words fit. Assumes nothing.
+-- `chg_colcon::parse_chg_colcon_payload` meets its contract: counted, and stored only where the words fit. Assumes nothing.
+use borrow.Author.Needs.{needs}
 use native.Mathlib.Omega.{arith}
 use mathlib.Core.Path.{sym, _∙_}
-use borrow.Author.Needs.{needs}
-use denote.Ref.{now}
-use Rattle.chg_colcon.specs.Bands.{bandsOf}
-use Rattle.chg_colcon.proofs.Laws.{counted, stored-words, stored-short, stored-none}
+use Rattle.chg_colcon.proofs.Laws.{stored-words, stored-short, stored-none}
 use Rattle.chg_colcon.proofs.parse_chg_colcon_payload.Statement.{statement}
 use Rattle.chg_colcon.proofs.parse_chg_colcon_payload.Tie as tie
 
@@ -17,10 +15,8 @@ enum-known-n c = search needs
 sub-if2 : tie.Need-sub-if2
 sub-if2 c = search needs
 
-fill-header-requires : tie.Need-fill-header-requires
-fill-header-requires c κs =
-    let q = counted (bandsOf (now (c .before .before .before .before .before .before .before .before .before .args .payload))) (c .before .before .before .before .n .given .0 .0) (sym (c .before .before .before .before .before .before .count-words .ensures) ∙ c .before .before .before .before .n .given .1) in
-    (q .0, omega (arith, c .before .if2 .taken, c .before .before .if1 .taken, q .1))
+read-list-requires : tie.Need-read-list-requires
+read-list-requires c κs = search needs
 
 same-length : tie.Need-same-length
 same-length c = search needs
@@ -29,7 +25,7 @@ returns : tie.Need-returns
 returns c =
     let h = c .before .before .before .before .if2 .taken in
     let k = c .before .before .before .before .before .if1 .taken in
-    stored-words _ _ _ _ _ (sym (c .before .before .before .before .before .before .before .before .before .count-words .ensures) ∙ c .before .before .before .before .before .before .before .n .given .1) (omega arith) (c .before .before .fill-header .ensures)
+    stored-words _ _ _ _ _ _ (sym (c .before .before .before .before .before .before .before .before .before .count-words .ensures) ∙ c .before .before .before .before .before .before .before .n .given .1) (omega arith) (c .before .before .read-list .ensures)
 
 enum-known-number : tie.Need-enum-known-number
 enum-known-number c = search needs
@@ -38,12 +34,12 @@ returns-2 : tie.Need-returns-2
 returns-2 c =
     let h = c .if2 .left in
     let k = c .before .if1 .taken in
-    stored-short _ (c .before .before .before .before .before .before .before .before .args .at) _ (c .before .before .before .n .given .0 .0) (sym (c .before .before .before .before .before .count-words .ensures) ∙ c .before .before .before .n .given .1) (omega arith)
+    stored-short _ _ _ _ (sym (c .before .before .before .before .before .count-words .ensures) ∙ c .before .before .before .n .given .1) (omega arith)
 
 returns-3 : tie.Need-returns-3
 returns-3 c =
     let h = c .if1 .left in
-    stored-short _ (c .before .before .before .before .before .before .before .args .at) _ (c .before .before .n .given .0 .0) (sym (c .before .before .before .before .count-words .ensures) ∙ c .before .before .n .given .1) (omega arith)
+    stored-short _ _ _ _ (sym (c .before .before .before .before .count-words .ensures) ∙ c .before .before .n .given .1) (omega arith)
 
 returns-4 : tie.Need-returns-4
 returns-4 c = stored-none _ _ _ _ (sym (c .before .before .before .count-words .ensures) ∙ c .before .number .given .1)
@@ -55,7 +51,7 @@ parse-chg-colcon-payload-spec =
     count-words-requires
     enum-known-n
     sub-if2
-    fill-header-requires
+    read-list-requires
     same-length
     returns
     enum-known-number

@@ -1,51 +1,30 @@
--- `chg_colcon::put3` meets its contract. Assumes nothing.
-use native.Mathlib.Omega.{arith}
-use lib.ListN.{length-set}
+-- `chg_colcon::put3` meets its contract: three stores one after the other. Assumes nothing.
 use borrow.Author.Needs.{needs}
 use Rattle.chg_colcon.proofs.put3.Statement.{statement}
 use Rattle.chg_colcon.proofs.put3.Tie as tie
 
-mul-out : tie.Need-mul-out
-mul-out c = search needs
+put-requires : tie.Need-put-requires
+put-requires c κs = search needs
 
-slice-write-out : tie.Need-slice-write-out
-slice-write-out c = search needs
+add-put : tie.Need-add-put
+add-put c = search needs
 
-add-out : tie.Need-add-out
-add-out c = search needs
+put-requires-2 : tie.Need-put-requires-2
+put-requires-2 c κs = search needs
 
-mul-out-2 : tie.Need-mul-out-2
-mul-out-2 c = search needs
+add-put-2 : tie.Need-add-put-2
+add-put-2 c = search needs
 
-slice-write-out-2 : tie.Need-slice-write-out-2
-slice-write-out-2 c = simp length-set (omega arith)
-
-add-out-2 : tie.Need-add-out-2
-add-out-2 c = search needs
-
-mul-out-3 : tie.Need-mul-out-3
-mul-out-3 c = search needs
-
-slice-write-out-3 : tie.Need-slice-write-out-3
-slice-write-out-3 c = simp length-set (omega arith)
+put-requires-3 : tie.Need-put-requires-3
+put-requires-3 c κs = search needs
 
 same-length : tie.Need-same-length
 same-length c = search needs
 
 returns : tie.Need-returns
-returns c = search needs
+returns c = cc
 
 pub put3-spec : {M : Type 1} → statement M
 put3-spec =
     tie.close
-    (tie.spec
-    mul-out
-    slice-write-out
-    add-out
-    mul-out-2
-    slice-write-out-2
-    add-out-2
-    mul-out-3
-    slice-write-out-3
-    same-length
-    returns)
+    (tie.spec put-requires add-put put-requires-2 add-put-2 put-requires-3 same-length returns)
