@@ -15,7 +15,8 @@ use Rattle.outcome.proofs.Laws.{ok-not-refuse, ok-injective, le-or-lt}
 use Rattle.grammar.specs.Bytes.{word}
 use Rattle.grammar.specs.Bands.{Entry, Band, Entries, Bands, entryWords, bandWords}
 use Rattle.chg_colcon.specs.Claim.{Listing}
-use Rattle.chg_colcon.specs.Bands.{wordOf, push3, header, headOf, entryOf, onHead, onEntry, bandsOf, entriesOf}
+use Rattle.chg_colcon.specs.Answers.{restOf}
+use Rattle.chg_colcon.specs.Bands.{wordOf, push3, header, headOf, entryOf, onHead, onEntry, bandsOf}
 use Rattle.chg_colcon.specs.declared.Header.{Header}
 use Rattle.chg_colcon.specs.declared.Header.the-variants as H
 use Rattle.chg_colcon.specs.declared.EntryRead.{EntryRead}
@@ -75,11 +76,7 @@ push-ok : (x y z : ℕ) (r : Res (List ℕ)) (ws : List ℕ) → push3 x y z r �
 push-ok x y z (refuse n) ws q = ok-not-refuse q
 push-ok x y z (ok vs) ws q = (vs, refl, sym (ok-injective q))
 
--- n entries and what follows them, or what follows at once
-abbrev follow : List ℕ → ℕ → ℕ → Res (List ℕ)
-follow s n lo = cond (eqb n 0) (bandsOf s) (entriesOf s n lo)
-
-entries-turn : (s : List ℕ) (n lo : ℕ) → follow s (suc n) lo ≡ onEntry (entryOf s lo) (λ col. follow (drop 6 s) n (col + 1))
+entries-turn : (s : List ℕ) (n lo : ℕ) → restOf s (suc n) lo ≡ onEntry (entryOf s lo) (λ col. restOf (drop 6 s) n (col + 1))
 entries-turn s zero lo = entries-step s 1 lo
 entries-turn s (suc n) lo =
     let a : suc (suc n) ≡ 0 → ⊥ = λ q. omega arith in
@@ -181,7 +178,7 @@ module _ (u : List ℕ) (e : ℕ) (k : e ≤ length u) where
   -- ---- What is listed is answered
 
   entries-complete : (xs : List Entry) (n p lo : ℕ) (vs : List ℕ) → length xs ≡ n → Entries u e p lo xs → bandsOf (part (p + 6 * n)) ≡ ok vs
-      → follow (part p) n lo ≡ ok (entryWords xs ++ vs)
+      → restOf (part p) n lo ≡ ok (entryWords xs ++ vs)
   unfolding Entries entryWords
   entries-complete [] zero p lo vs l h q = let z : p + 6 * 0 ≡ p = omega arith in rw z at q
   entries-complete [] (suc n) p lo vs l h q = absurd (omega (arith, l))
@@ -227,7 +224,7 @@ module _ (u : List ℕ) (e : ℕ) (k : e ≤ length u) where
     words : ws ≡ entryWords xs ++ rest
     found : Listing u e (p + 6 * n) rest
 
-  enter : (n p lo : ℕ) (ws : List ℕ) → p ≤ e → ((q : ℕ) (vs : List ℕ) → p ≤ q → q ≤ e → bandsOf (part q) ≡ ok vs → Listing u e q vs) → follow (part p) n lo ≡ ok ws → Entered p n lo ws
+  enter : (n p lo : ℕ) (ws : List ℕ) → p ≤ e → ((q : ℕ) (vs : List ℕ) → p ≤ q → q ≤ e → bandsOf (part q) ≡ ok vs → Listing u e q vs) → restOf (part p) n lo ≡ ok ws → Entered p n lo ws
   unfolding Entries entryWords
   enter zero p lo ws b rec q =
       let z : p ≡ p + 6 * 0 = omega arith in
@@ -235,13 +232,13 @@ module _ (u : List ℕ) (e : ℕ) (k : e ≤ length u) where
   enter (suc n) p lo ws b rec q =
       go (λ c vs w g. enter n (p + 6) (c + 1) vs w (λ x ys l. rec x ys (omega arith)) g) (entryOf (part p) lo) refl (sym (entries-turn (part p) n lo) ∙ q)
     where
-      go : ((c : ℕ) (vs : List ℕ) → p + 6 ≤ e → follow (part (p + 6)) n (c + 1) ≡ ok vs → Entered (p + 6) n (c + 1) vs)
-          → (r : EntryRead) → entryOf (part p) lo ≡ r → onEntry r (λ col. follow (drop 6 (part p)) n (col + 1)) ≡ ok ws → Entered p (suc n) lo ws
+      go : ((c : ℕ) (vs : List ℕ) → p + 6 ≤ e → restOf (part (p + 6)) n (c + 1) ≡ ok vs → Entered (p + 6) n (c + 1) vs)
+          → (r : EntryRead) → entryOf (part p) lo ≡ r → onEntry r (λ col. restOf (drop 6 (part p)) n (col + 1)) ≡ ok ws → Entered p (suc n) lo ws
       go ih E.Bad f g = ok-not-refuse g
       go ih (E.Got c s a) f g =
           let i = entry-got p lo c s a b f in
-          let v = push-ok c s a (follow (drop 6 (part p)) n (c + 1)) ws g in
-          let w : follow (part (p + 6)) n (c + 1) ≡ ok (v .0) = sym (ap (λ (l : List ℕ). follow l n (c + 1)) (part-drop p 6)) ∙ v .1 in
+          let v = push-ok c s a (restOf (drop 6 (part p)) n (c + 1)) ws g in
+          let w : restOf (part (p + 6)) n (c + 1) ≡ ok (v .0) = sym (ap (λ (l : List ℕ). restOf l n (c + 1)) (part-drop p 6)) ∙ v .1 in
           let t = ih c (v .0) (i .within) w in
           let z : p + 6 + 6 * n ≡ p + 6 * suc n = omega arith in
           record {
@@ -265,7 +262,7 @@ module _ (u : List ℕ) (e : ℕ) (k : e ≤ length u) where
       go (λ x vs c d g. bands-sound f x vs c d g) (headOf (part p)) refl (sym (bands-step (part p)) ∙ q)
     where
       go : ((x : ℕ) (vs : List ℕ) → x ≤ e → e - x < f → bandsOf (part x) ≡ ok vs → Listing u e x vs)
-          → (h : Header) → headOf (part p) ≡ h → onHead h (λ n. follow (drop 4 (part p)) n 0) ≡ ok ws → Listing u e p ws
+          → (h : Header) → headOf (part p) ≡ h → onHead h (λ n. restOf (drop 4 (part p)) n 0) ≡ ok ws → Listing u e p ws
       go ih H.Bad r g = ok-not-refuse g
       go ih H.End r g =
           let c = head-cases p H.End b r (λ z. let y : _≡_ {A = ℕ} 0 1 = cc in omega arith) in
@@ -280,8 +277,8 @@ module _ (u : List ℕ) (e : ℕ) (k : e ≤ length u) where
           (λ d. absurd (let z = sym (head-none p d) ∙ r in let y : _≡_ {A = ℕ} 0 1 = cc in omega arith))
           (λ d.
           let i = header-band (word u p) (word u (p + 2)) x y n (d .1) in
-          let v = push-ok x y n (follow (drop 4 (part p)) n 0) ws g in
-          let w : follow (part (p + 4)) n 0 ≡ ok (v .0) = sym (ap (λ (l : List ℕ). follow l n 0) (part-drop p 4)) ∙ v .1 in
+          let v = push-ok x y n (restOf (drop 4 (part p)) n 0) ws g in
+          let w : restOf (part (p + 4)) n 0 ≡ ok (v .0) = sym (ap (λ (l : List ℕ). restOf l n 0) (part-drop p 4)) ∙ v .1 in
           let t = enter n (p + 4) 0 (v .0) (d .0) (λ a vs m o h. ih a vs o (omega arith) h) w in
           record {
             bands = record { place = p; first = x; last = y; count = n; entries = t .xs } ∷ t .found .bands;

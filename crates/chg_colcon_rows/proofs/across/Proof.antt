@@ -3,7 +3,6 @@ use Prim.Native.Nat.{_-_}
 use mathlib.Core.Path.{_≡_}
 use lib.ListN.{length}
 use borrow.Author.Needs.{needs}
-use native.Mathlib.Omega.{arith}
 use Rattle.chg_colcon_rows.proofs.across.Statement.{statement}
 use Rattle.chg_colcon_rows.proofs.across.Tie as tie
 
