@@ -13,3 +13,8 @@ rowPixels left (c ∷ cs) = replicate (paints left c) (colour c) ++ rowPixels (l
 unfoldable pub codesIn : List (List Code) → ℕ
 codesIn [] = 0
 codesIn (r ∷ rs) = length r + codesIn rs
+
+-- the pixels of rows, one row after the other (FORMAT 5.8)
+unfoldable pub indexMap : ℕ → List (List Code) → List ℕ
+indexMap w [] = []
+indexMap w (r ∷ rs) = rowPixels w r ++ indexMap w rs

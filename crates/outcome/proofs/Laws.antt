@@ -1,15 +1,15 @@
 -- What an answer says of its parts, and stores in a list. Assumes nothing.
-use Prim.Native.Nat.{ℕ, suc, _+_, _≤_, _<_}
+use Prim.Native.Nat.{ℕ, zero, suc, _+_, _-_, _≤_, _<_}
 use native.Mathlib.Omega.{arith}
 use mathlib.Core.Path.{_≡_, refl, sym, ap}
-use mathlib.Core.Bool.{Bool, true, false}
+use mathlib.Core.Bool.{Bool, true, false, _&&_}
 use mathlib.Core.Logic.{_⊎_, inl, inr}
 use mathlib.Core.List.{List, [], _∷_, _++_}
 use lib.Dec.{leb}
-use lib.ListN.{length, set}
-use lib.Seq.{sets}
+use lib.ListN.{length, set, take, drop}
+use lib.Seq.{sets, slice, take-nil}
 use borrow.Author.Tests.{leb-true, leb-false}
-use Rattle.outcome.specs.Outcome.{Res, ok, refuse, check, andThen, consRes}
+use Rattle.outcome.specs.Outcome.{Res, ok, refuse, check, andThen, consRes, mapRes}
 
 pub ok-not-refuse : {A : Type 0} {P : Type 0} {n : ℕ} {a : A} → refuse n ≡ ok a → P
 ok-not-refuse e = absurd (let z : _≡_ {A = ℕ} 0 1 = cc in omega arith)
@@ -28,7 +28,23 @@ pub consRes-ok : {A : Type 0} (a : A) (r : Res (List A)) {l : List A} → consRe
 consRes-ok a (ok t) e = (t, refl, ok-injective e)
 consRes-ok a (refuse n) e = ok-not-refuse e
 
+pub and-true : (a b : Bool) → (a && b) ≡ true → (a ≡ true) × (b ≡ true)
+and-true true b e = (refl, e)
+and-true false b e = absurd (let z : _≡_ {A = ℕ} 0 1 = cc in omega arith)
+
+pub check-ok : {A : Type 0} (t : Bool) (m : ℕ) (r : Res A) {y : A} → check t m r ≡ ok y → (t ≡ true) × (r ≡ ok y)
+check-ok true m r e = (refl, e)
+check-ok false m r e = ok-not-refuse e
+
+pub mapRes-ok : {A B : Type 0} (f : A → B) (r : Res A) {y : B} → mapRes f r ≡ ok y → (x : A) × (r ≡ ok x) × (f x ≡ y)
+mapRes-ok f (ok a) e = (a, refl, ok-injective e)
+mapRes-ok f (refuse n) e = ok-not-refuse e
+
 -- and of a refusal
+pub mapRes-refuse : {A B : Type 0} (f : A → B) (r : Res A) {n : ℕ} → mapRes f r ≡ refuse n → r ≡ refuse n
+mapRes-refuse f (ok a) e = ok-not-refuse (sym e)
+mapRes-refuse f (refuse m) e = ap refuse (refuse-injective e)
+
 pub andThen-refuse : {A B : Type 0} (r : Res A) (k : A → Res B) {n : ℕ} → andThen r k ≡ refuse n → (r ≡ refuse n) ⊎ ((x : A) × (r ≡ ok x) × (k x ≡ refuse n))
 andThen-refuse (ok a) k e = inr (a, refl, e)
 andThen-refuse (refuse m) k e = inl (ap refuse (refuse-injective e))
@@ -55,3 +71,10 @@ sets-append l i [] b = let z : i + 0 ≡ i = omega arith in rw z
 sets-append l i (x ∷ a) b =
     let z : i + suc (length a) ≡ suc i + length a = omega arith in
     rw z (sets-append (set l i x) (suc i) a b)
+
+-- a part of a slice, as the code takes it
+pub part-slice : (a e : ℕ) (l : List ℕ) → take (e - a) (drop a l) ≡ slice a e l
+part-slice zero e l = let z : e - 0 ≡ e = omega arith in rw z
+part-slice (suc a) zero l = let z : 0 - suc a ≡ 0 = omega arith in rw z
+part-slice (suc a) (suc e) [] = take-nil (suc e - suc a)
+part-slice (suc a) (suc e) (x ∷ l) = let z : suc e - suc a ≡ e - a = omega arith in rw z (part-slice a e l)

@@ -9,14 +9,35 @@ pub data Res (A : Type 0) : Type 0 where
   refuse : ℕ → Res A
 
 -- the refusals that the layers give, by name
+abbrev pub no-head : ℕ
+no-head = 15
+
+abbrev pub bad-head : ℕ
+bad-head = 16
+
+abbrev pub cut-parameters : ℕ
+cut-parameters = 17
+
+abbrev pub small-size : ℕ
+small-size = 18
+
 abbrev pub no-band-list : ℕ
 no-band-list = 19
+
+abbrev pub unknown-command : ℕ
+unknown-command = 20
+
+abbrev pub no-area : ℕ
+no-area = 21
 
 abbrev pub short-pixels : ℕ
 short-pixels = 22
 
 abbrev pub short-words : ℕ
 short-words = 23
+
+abbrev pub no-top-field : ℕ
+no-top-field = 25
 
 abbrev pub field-ran-out : ℕ
 field-ran-out = 26
@@ -38,6 +59,11 @@ consRes a (refuse n) = refuse n
 abbrev pub listed : {A : Type 0} → Res (List A) → List A
 listed (ok l) = l
 listed (refuse n) = []
+
+-- f of what was found
+abbrev pub mapRes : {A B : Type 0} → (A → B) → Res A → Res B
+mapRes f (ok a) = ok (f a)
+mapRes f (refuse n) = refuse n
 
 -- it was not refused
 abbrev pub IsOk : {A : Type 0} → Res A → Type 0

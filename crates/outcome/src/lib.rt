@@ -1,13 +1,34 @@
 // The numbers that refusals carry, one name each (docs/FORMAT.md, table of refusals). A layer adds its own here.
 
+// The bytes are too few for a unit's head.
+pub const NO_HEAD: u8 = 15;
+
+// The length that a unit names, or the place of its first control block, is wrong.
+pub const BAD_HEAD: u8 = 16;
+
+// The parameters of a command go past the unit's end.
+pub const CUT_PARAMETERS: u8 = 17;
+
+// The size of a colour change does not count its own two bytes.
+pub const SMALL_SIZE: u8 = 18;
+
 // The bytes of a colour change are no list of bands.
 pub const NO_BAND_LIST: u8 = 19;
+
+// A byte stands for no command.
+pub const UNKNOWN_COMMAND: u8 = 20;
+
+// A picture's last column or line is before its first.
+pub const NO_AREA: u8 = 21;
 
 // The lent index map is shorter than width times height.
 pub const SHORT_PIXELS: u8 = 22;
 
 // The lent words are too few for the bands.
 pub const SHORT_WORDS: u8 = 23;
+
+// The top field starts past the unit's end.
+pub const NO_TOP_FIELD: u8 = 25;
 
 // A field has no bytes left where a row still wants a code.
 pub const FIELD_RAN_OUT: u8 = 26;

@@ -58,7 +58,7 @@ row-refuses u e left p k q =
     list-refuses rowDone (rowCode u e) rowNext (λ (s : Standing). s .left) (row-falls u e) (λ n. n ≡ field-ran-out) (λ s n f. code-refuses u e (s .place) n f)
     (standing left p) k q
 
-field-refuses : (u : List ℕ) (e w n p k : ℕ) → fieldAt u e w n p ≡ refuse k → k ≡ field-ran-out
+pub field-refuses : (u : List ℕ) (e w n p k : ℕ) → fieldAt u e w n p ≡ refuse k → k ≡ field-ran-out
 unfolding fieldAt
 field-refuses u e w zero p k q = ok-not-refuse (sym q)
 field-refuses u e w (suc n) p k q =

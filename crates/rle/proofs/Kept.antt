@@ -14,12 +14,13 @@ use Rattle.rle.specs.Codes.{rowAt, fieldAt}
 use Rattle.rle.specs.Field.{paintField}
 use Rattle.rle.specs.Kept.{widest, keptRun, keptRow, keptAll, leftAfter, placeAfter, paintKept, KeptFits}
 use Rattle.rle.specs.Answers.{rowCounts, fieldCounts, fieldAnswer}
+use Rattle.rle.specs.Fields.{partRows, Ready, Counted}
 use Rattle.rle.specs.declared.Cursor.{Cursor}
 use Rattle.rle.specs.declared.Counts.{Counts}
 use Rattle.rle.specs.declared.FieldAnswer.the-variants as field-answer
 use Rattle.rle.proofs.Laws.{paints-le, row-none, field-iff}
 use Rattle.outcome.proofs.Laws.{sets-append}
-use Rattle.rle.proofs.Turns.{Coded, Rowed, row-turn, field-turn, blank}
+use Rattle.rle.proofs.Turns.{Coded, Rowed, row-turn, field-turn, blank, fielded}
 
 -- ---- Keeping
 
@@ -213,18 +214,17 @@ paints-end w left to ks count k px l b =
 
 -- ---- The whole of a field from what was kept
 
--- the first `count` numbers of ks are the codes of a field's n rows
-pub record KeptField (u : List ℕ) (e w n count : ℕ) (ks : List ℕ) : Type 0 where
-  pub is : take count ks ≡ keptAll w (listed (fieldAt u e w n 0))
-
-pub kept-is : (u : List ℕ) (e w n : ℕ) (ks ks′ : List ℕ) (b : Counts) → IsOk (fieldAt u e w n 0) → field-answer.Rows b ≡ fieldAnswer w (fieldAt u e w n 0)
-    → ks′ ≡ sets ks 0 (keptAll w (listed (fieldAt u e w n 0))) → b .codes ≤ length ks′ → KeptField u e w n (b .codes) ks′
-kept-is u e w n ks ks′ b i a q f = record { is = go (fieldAt u e w n 0) refl i a q }
+-- a field that was measured, with its codes kept
+pub ready : (s : List ℕ) (w n : ℕ) (ks ks′ : List ℕ) (b : Counts) → Counted s w n b
+    → (IsOk (partRows s w n) → ks′ ≡ sets ks 0 (keptAll w (listed (partRows s w n)))) → Ready s w n (b .codes) ks′
+ready s w n ks ks′ b a q =
+    let i = fielded s (length s) w n 0 b a in
+    record { there = i; kept = λ f. go (partRows s w n) i a (q i) f }
   where
-    go : (r : Res (List (List Code))) → fieldAt u e w n 0 ≡ r → IsOk r → field-answer.Rows b ≡ fieldAnswer w r → ks′ ≡ sets ks 0 (keptAll w (listed r))
+    go : (r : Res (List (List Code))) → IsOk r → field-answer.Rows b ≡ fieldAnswer w r → ks′ ≡ sets ks 0 (keptAll w (listed r)) → b .codes ≤ length ks′
         → take (b .codes) ks′ ≡ keptAll w (listed r)
-    go (refuse k) h i a q = absurd i
-    go (ok rs) h i a q =
+    go (refuse k) i a q f = absurd i
+    go (ok rs) i a q f =
         let z : b ≡ fieldCounts w rs = cc in
         let c : b .codes ≡ length (keptAll w rs) = ap (λ (d : Counts). d .codes) z ∙ kept-length w rs in
         let l : length (keptAll w rs) ≤ length ks = omega (arith, ap length q, length-sets ks 0 (keptAll w rs)) in
@@ -251,9 +251,9 @@ kept-whole u e (suc w) n t i = go (fieldAt u e (suc w) n 0) refl i
           pixels = λ o px. rw q (kept-field u e (suc w) 0 rs (f .1) (omega arith) t o px);
         }
 
-module _ (u : List ℕ) (e w n count : ℕ) (ks : List ℕ) (t : w < widest) (i : IsOk (fieldAt u e w n 0)) (k : KeptField u e w n count ks) where
+module _ (s : List ℕ) (w n count : ℕ) (ks : List ℕ) (t : w < widest) (r : Ready s w n count ks) (f : count ≤ length ks) where
   pub kept-room : (l o : ℕ) → o + n * (2 * w) ≤ l + w → KeptFits l w w o (take count ks)
-  kept-room l o b = rw (k .is) (kept-whole u e w n t i .room l o b)
+  kept-room l o b = rw (r .kept f) (kept-whole s (length s) w n t (r .there) .room l o b)
 
-  pub kept-pixels : (o : ℕ) (px px′ : List ℕ) → px′ ≡ paintKept w w o (take count ks) px → px′ ≡ paintField w o (listed (fieldAt u e w n 0)) px
-  kept-pixels o px px′ p = p ∙ ap (λ (vs : List ℕ). paintKept w w o vs px) (k .is) ∙ kept-whole u e w n t i .pixels o px
+  pub kept-pixels : (o : ℕ) (px px′ : List ℕ) → px′ ≡ paintKept w w o (take count ks) px → px′ ≡ paintField w o (listed (partRows s w n)) px
+  kept-pixels o px px′ p = p ∙ ap (λ (vs : List ℕ). paintKept w w o vs px) (r .kept f) ∙ kept-whole s (length s) w n t (r .there) .pixels o px

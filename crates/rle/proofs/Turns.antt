@@ -19,7 +19,7 @@ use Rattle.grammar.specs.Pixels.{rowPixels}
 use Rattle.rle.specs.Codes.{made, codeFrom, codeAt, rowAt, fieldAt}
 use Rattle.rle.specs.Field.{rowsFrom, paintField, decoded}
 use Rattle.rle.specs.Kept.{keptRow, keptAll}
-use Rattle.rle.specs.Answers.{nothing, plus, counted, AtMost, rowCounts, fieldCounts, codeAnswer, rowAnswer, fieldAnswer, RowsDecoded, Decoded}
+use Rattle.rle.specs.Answers.{nothing, plus, counted, AtMost, rowCounts, fieldCounts, codeAnswer, rowAnswer, fieldAnswer, plusField, RowsDecoded, Decoded}
 use Rattle.rle.specs.declared.Cursor.{Cursor}
 use Rattle.rle.specs.declared.Counts.{Counts}
 use Rattle.rle.specs.declared.CodeAnswer.the-variants as code-answer
@@ -260,11 +260,6 @@ unrowed u e w p n q = go (rowAt u e w p) refl q
     go (ok r) h q′ = let z : _≡_ {A = ℕ} 0 1 = cc in absurd (omega arith)
 
 -- ---- Fields
-
--- the counts a, and then the field's
-abbrev pub plusField : Counts → FieldAnswer → FieldAnswer
-plusField a (field-answer.Rows b) = field-answer.Rows (plus a b)
-plusField a (field-answer.Refused n) = field-answer.Refused n
 
 pub field-whole : (r : FieldAnswer) → plusField nothing r ≡ r
 field-whole (field-answer.Rows b) = ap field-answer.Rows (nothing-plus b)

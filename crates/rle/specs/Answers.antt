@@ -59,6 +59,11 @@ abbrev pub fieldAnswer : ℕ → Res (List (List Code)) → FieldAnswer
 fieldAnswer w (ok rs) = field-answer.Rows (fieldCounts w rs)
 fieldAnswer w (refuse n) = field-answer.Refused n
 
+-- the counts a, and then the field's
+abbrev pub plusField : Counts → FieldAnswer → FieldAnswer
+plusField a (field-answer.Rows b) = field-answer.Rows (plus a b)
+plusField a (field-answer.Refused n) = field-answer.Refused n
+
 -- a field of n rows, measured
 abbrev pub measured : List ℕ → ℕ → ℕ → FieldAnswer
 measured s w n = fieldAnswer w (fieldAt s (length s) w n 0)

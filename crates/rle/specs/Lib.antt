@@ -3,3 +3,4 @@ pub mod Field
 pub mod Kept
 pub mod Answers
 pub mod Claim
+pub mod Fields

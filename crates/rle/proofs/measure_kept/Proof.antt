@@ -11,9 +11,9 @@ use Rattle.outcome.specs.Outcome.{Res, listed, IsOk}
 use Rattle.grammar.specs.Rows.{Code}
 use Rattle.rle.specs.Codes.{fieldAt}
 use Rattle.rle.specs.Kept.{keptAll}
-use Rattle.rle.specs.Answers.{AtMost, fieldAnswer, measured}
+use Rattle.rle.specs.Answers.{AtMost, fieldAnswer, plusField, measured}
 use Rattle.rle.specs.declared.Counts.{Counts}
-use Rattle.rle.proofs.Turns.{Rowed, rowed, unrowed, plusField, field-whole, field-more, field-short, field-end, row-there, rows-there, blank-counts, at-most-le, at-most-align}
+use Rattle.rle.proofs.Turns.{Rowed, rowed, unrowed, field-whole, field-more, field-short, field-end, row-there, rows-there, blank-counts, at-most-le, at-most-align}
 use Rattle.rle.proofs.Kept.{keep-rows, keep-rows-end, blank-keeps}
 use Rattle.rle.proofs.measure_kept.Statement.{statement}
 use Rattle.rle.proofs.measure_kept.Tie as tie

@@ -1,0 +1,6 @@
+pub mod Bits
+pub mod Listed
+pub mod Laws
+pub mod Told
+pub mod Turns
+pub mod Fill

@@ -1,0 +1,474 @@
+// The control blocks of a unit: a chain of blocks whose commands say when, where and in which colours its picture is shown
+// (docs/FORMAT.md, section 3). What they say is told in one record.
+use chg_colcon::BandAnswer;
+use outcome::BAD_HEAD;
+use outcome::CUT_PARAMETERS;
+use outcome::NO_AREA;
+use outcome::NO_HEAD;
+use outcome::SMALL_SIZE;
+use outcome::UNKNOWN_COMMAND;
+ghost use mathlib.Core.Path.{_≡_};
+ghost use Prim.Native.Nat.{ℕ, _≤_, _<_, _+_, _*_, _/_, _%_, _^_};
+ghost use lib.ListN.{length};
+ghost use Rattle.grammar.specs.Bytes.{byte, word, nibbles};
+ghost use mathlib.Core.List.{List};
+ghost use mathlib.Core.Option.{some};
+ghost use Rattle.grammar.specs.Bands.{Band, bandWords};
+ghost use Rattle.grammar.specs.Control.{Order, Command, Block, forced-start, start, stop, selectors, alphas, area, offsets, colours, sizeOf};
+ghost use Rattle.grammar.specs.Record.{Told, untold, tell};
+ghost use Rattle.control.specs.Chain.{areaAt, plainAt, changeAt, orderAt, commandsAt, blocksAt, controlAt};
+ghost use Rattle.outcome.specs.Outcome.{ok, IsOk};
+ghost use Rattle.control.specs.Fill.{orderWords, blockWords, chainWords, unitWords, OrderFilled, Filled};
+ghost use lib.Seq.{sets};
+ghost use Rattle.control.specs.Answers.{spuOf, orderAnswer, commandsAnswer, chainAnswer, controlAnswer};
+
+// The record of a unit, by the names of the original.
+pub struct Spu {
+    // The first and last column and the first and last line of the picture on the display.
+    pub x1: u16,
+    pub y1: u16,
+    pub x2: u16,
+    pub y2: u16,
+    // The words of four palette selectors and of four alphas, colour 0 in the top nibble.
+    pub palette_sel: u16,
+    pub alpha: u16,
+    // Whether there is a start, of either kind, and the delay of the first.
+    pub started: bool,
+    pub start_delay_raw: u16,
+    // Whether there is a stop, and the delay of the last.
+    pub stopped: bool,
+    pub stop_delay_raw: u16,
+    // Whether there is a forced start.
+    pub forced_display: bool,
+    // Where the two fields start in the unit.
+    pub top_rle_off: u16,
+    pub bot_rle_off: u16,
+    // Whether there is a colour change, and how many words the bands of all of them take.
+    pub saw_chg_colcon: bool,
+    pub band_words: usize,
+    // The number of codes read from both fields; 0 until they are read.
+    pub codes: usize,
+}
+
+// What a command tells.
+enum CommandAnswer {
+    // The place after it, and the record with what it tells.
+    Next { at: usize, spu: Spu },
+    // The number of the refusal.
+    Refused(u8),
+}
+
+// What control blocks tell.
+pub enum ControlAnswer {
+    Tells(Spu),
+    // The number of the refusal.
+    Refused(u8),
+}
+
+fn word_of(a: u8, b: u8) -> u16
+    ensures { λ r. ⌜ r ≡ a * 256 + b ⌝ }
+{
+    a as u16 * 256 + b as u16
+}
+
+// The word at place i.
+fn word_at(unit: &[u8], i: usize) -> u16
+    requires { ⌜ i + 2 ≤ length (now unit) ⌝ }
+    ensures { λ r. ⌜ r ≡ word (now (unit .entry)) i ⌝ }
+{
+    word_of(unit[i], unit[i + 1])
+}
+
+// 12 bits: a byte and the high half of the next, or the low half of a byte and the next.
+fn twelve_of(a: u8, b: u8) -> u16
+    ensures { λ r. ⌜ r ≡ a * 16 + b / 16 ⌝ }
+{
+    a as u16 * 16 + b as u16 / 16
+}
+
+fn low_twelve_of(a: u8, b: u8) -> u16
+    ensures { λ r. ⌜ r ≡ a % 16 * 256 + b ⌝ }
+{
+    a as u16 % 16 * 256 + b as u16
+}
+
+// The three nibbles that start with byte q, and the three that end with the byte after it.
+fn twelve_from(unit: &[u8], q: usize) -> u16
+    requires { ⌜ q + 2 ≤ length (now unit) ⌝ }
+    ensures { λ r. ⌜ r ≡ nibbles (now (unit .entry)) (2 * q) 3 ⌝ }
+{
+    twelve_of(unit[q], unit[q + 1])
+}
+
+fn twelve_to(unit: &[u8], q: usize) -> u16
+    requires { ⌜ q + 2 ≤ length (now unit) ⌝ }
+    ensures { λ r. ⌜ r ≡ nibbles (now (unit .entry)) (2 * q + 1) 3 ⌝ }
+{
+    low_twelve_of(unit[q], unit[q + 1])
+}
+
+// A start in a block with this delay: the first counts.
+fn with_start(spu: Spu, delay: u16) -> Spu
+    ensures { λ r. ⌜ ((t : Told) → spu ≡ spuOf t 0 → r ≡ spuOf (tell delay start t) 0) ⌝ }
+{
+    if spu.started {
+        return spu;
+    }
+    let mut s = spu;
+    s.started = true;
+    s.start_delay_raw = delay;
+    s
+}
+
+fn with_forced_start(spu: Spu, delay: u16) -> Spu
+    ensures { λ r. ⌜ ((t : Told) → spu ≡ spuOf t 0 → r ≡ spuOf (tell delay forced-start t) 0) ⌝ }
+{
+    let mut s = with_start(spu, delay);
+    s.forced_display = true;
+    s
+}
+
+// A stop in a block with this delay: the last counts.
+fn with_stop(spu: Spu, delay: u16) -> Spu
+    ensures { λ r. ⌜ ((t : Told) → spu ≡ spuOf t 0 → r ≡ spuOf (tell delay stop t) 0) ⌝ }
+{
+    let mut s = spu;
+    s.stopped = true;
+    s.stop_delay_raw = delay;
+    s
+}
+
+fn with_selectors(spu: Spu, four: u16) -> Spu
+    ensures { λ r. ⌜ ((t : Told) (d : ℕ) → spu ≡ spuOf t 0 → r ≡ spuOf (tell d (selectors four) t) 0) ⌝ }
+{
+    let mut s = spu;
+    s.palette_sel = four;
+    s
+}
+
+fn with_alphas(spu: Spu, four: u16) -> Spu
+    ensures { λ r. ⌜ ((t : Told) (d : ℕ) → spu ≡ spuOf t 0 → r ≡ spuOf (tell d (alphas four) t) 0) ⌝ }
+{
+    let mut s = spu;
+    s.alpha = four;
+    s
+}
+
+fn with_area(spu: Spu, x1: u16, x2: u16, y1: u16, y2: u16) -> Spu
+    ensures { λ r. ⌜ ((t : Told) (d : ℕ) → spu ≡ spuOf t 0 → r ≡ spuOf (tell d (area x1 x2 y1 y2) t) 0) ⌝ }
+{
+    let mut s = spu;
+    s.x1 = x1;
+    s.x2 = x2;
+    s.y1 = y1;
+    s.y2 = y2;
+    s
+}
+
+fn with_offsets(spu: Spu, top: u16, bottom: u16) -> Spu
+    ensures { λ r. ⌜ ((t : Told) (d : ℕ) → spu ≡ spuOf t 0 → r ≡ spuOf (tell d (offsets top bottom) t) 0) ⌝ }
+{
+    let mut s = spu;
+    s.top_rle_off = top;
+    s.bot_rle_off = bottom;
+    s
+}
+
+// A colour change whose bands take so many words.
+fn with_bands(spu: Spu, words: usize) -> Spu
+    requires { ⌜ spu .«band_words» + words < 2 ^ 64 ⌝ }
+    ensures { λ r. ⌜ ((t : Told) (d n : ℕ) (bs : List Band) → words ≡ length (bandWords bs) → spu ≡ spuOf t 0 → r ≡ spuOf (tell d (colours n bs) t) 0) ⌝ }
+{
+    let mut s = spu;
+    s.saw_chg_colcon = true;
+    s.band_words = spu.band_words + words;
+    s
+}
+
+// The area whose six bytes stand at p.
+fn with_area_at(unit: &[u8], p: usize, spu: Spu) -> Spu
+    requires { ⌜ p + 6 ≤ length (now unit) ⌝ }
+    ensures { λ r. ⌜ ((t : Told) (d : ℕ) → spu ≡ spuOf t 0 → r ≡ spuOf (tell d (areaAt (now (unit .entry)) p) t) 0) ⌝ }
+{
+    let x1 = twelve_from(unit, p);
+    let x2 = twelve_to(unit, p + 1);
+    let y1 = twelve_from(unit, p + 3);
+    let y2 = twelve_to(unit, p + 4);
+    with_area(spu, x1, x2, y1, y2)
+}
+
+// How many bytes of parameters a command other than a colour change has.
+fn taken(code: u8) -> usize
+    requires { ⌜ code < 7 ⌝ }
+    ensures { λ r. ⌜ ((u : List ℕ) (p : ℕ) → r ≡ sizeOf (plainAt u p code)) ⌝ }
+{
+    if code < 3 {
+        return 0;
+    }
+    if code < 5 {
+        return 2;
+    }
+    if code == 5 {
+        return 6;
+    }
+    4
+}
+
+// The record after a command other than a colour change, its parameters at p.
+fn with_order(unit: &[u8], p: usize, code: u8, delay: u16, spu: Spu) -> Spu
+    requires { ⌜ (code < 7) × (p + sizeOf (plainAt (now unit) p code) ≤ length (now unit)) ⌝ }
+    ensures { λ r. ⌜ ((t : Told) → spu ≡ spuOf t 0 → r ≡ spuOf (tell delay (plainAt (now (unit .entry)) p code) t) 0) ⌝ }
+{
+    if code == 0 {
+        return with_forced_start(spu, delay);
+    }
+    if code == 1 {
+        return with_start(spu, delay);
+    }
+    if code == 2 {
+        return with_stop(spu, delay);
+    }
+    if code == 3 {
+        return with_selectors(spu, word_at(unit, p));
+    }
+    if code == 4 {
+        return with_alphas(spu, word_at(unit, p));
+    }
+    if code == 5 {
+        return with_area_at(unit, p, spu);
+    }
+    with_offsets(spu, word_at(unit, p), word_at(unit, p + 2))
+}
+
+// A colour change, its size word at p.
+fn read_change(unit: &[u8], end: usize, p: usize, spu: Spu) -> CommandAnswer
+    requires { ⌜ (p ≤ end) × (end ≤ length (now unit)) × (spu .«band_words» + length (now unit) < 2 ^ 64) ⌝ }
+    ensures { λ r. ⌜ ((t : Told) (d : ℕ) → spu ≡ spuOf t 0 → r ≡ orderAnswer d p t (changeAt (now (unit .entry)) end p)) ⌝ }
+{
+    if end - p < 2 {
+        return CommandAnswer::Refused(CUT_PARAMETERS);
+    }
+    let size = word_at(unit, p) as usize;
+    if size < 2 {
+        return CommandAnswer::Refused(SMALL_SIZE);
+    }
+    if end - p < size {
+        return CommandAnswer::Refused(CUT_PARAMETERS);
+    }
+    let next = p + size;
+    match chg_colcon::count_words(&unit[p + 2..next]) {
+        BandAnswer::Words(n) => CommandAnswer::Next {
+            at: next,
+            spu: with_bands(spu, n),
+        },
+        BandAnswer::Refused(number) => CommandAnswer::Refused(number),
+    }
+}
+
+// A command that stands before `end`, in a block with this delay.
+fn read_command(unit: &[u8], end: usize, at: usize, delay: u16, spu: Spu) -> CommandAnswer
+    requires { ⌜ (at < end) × (end ≤ length (now unit)) × (spu .«band_words» + length (now unit) < 2 ^ 64) ⌝ }
+    ensures { λ r. ⌜ ((t : Told) → spu ≡ spuOf t 0 → r ≡ orderAnswer delay (at + 1) t (orderAt (now (unit .entry)) end (at + 1) (byte (now (unit .entry)) at))) ⌝ }
+{
+    let code = unit[at];
+    let p = at + 1;
+    if code == 7 {
+        return read_change(unit, end, p, spu);
+    }
+    if 7 < code {
+        return CommandAnswer::Refused(UNKNOWN_COMMAND);
+    }
+    let size = taken(code);
+    if end - p < size {
+        return CommandAnswer::Refused(CUT_PARAMETERS);
+    }
+    CommandAnswer::Next {
+        at: p + size,
+        spu: with_order(unit, p, code, delay, spu),
+    }
+}
+
+// The commands of a block with this delay, from `from` on.
+fn read_commands(unit: &[u8], end: usize, from: usize, delay: u16, spu: Spu) -> ControlAnswer
+    requires { ⌜ ((t : Told) × (spu ≡ spuOf t 0)) × (from ≤ end) × (end ≤ length (now unit)) × (spu .«band_words» + end + length (now unit) < 2 ^ 64) ⌝ }
+    ensures { λ r. ⌜ ((t : Told) → spu ≡ spuOf t 0 → r ≡ commandsAnswer delay t (commandsAt (now (unit .entry)) end from)) ⌝ }
+{
+    let mut at = from;
+    let mut told = spu;
+    while at < end {
+        if unit[at] == 255 {
+            return ControlAnswer::Tells(told);
+        }
+        match read_command(unit, end, at, delay, told) {
+            CommandAnswer::Next {
+                at: next,
+                spu: after,
+            } => {
+                at = next;
+                told = after;
+            }
+            CommandAnswer::Refused(number) => {
+                return ControlAnswer::Refused(number);
+            }
+        }
+    }
+    ControlAnswer::Tells(told)
+}
+
+// The chain of blocks from `from` on.
+fn read_chain(unit: &[u8], end: usize, from: usize) -> ControlAnswer
+    requires { ⌜ (end ≤ length (now unit)) × (end < 65536) × (from < 65536) × (length (now unit) < 2 ^ 63) ⌝ }
+    ensures { λ r. ⌜ r ≡ chainAnswer untold (blocksAt (now (unit .entry)) end (some from)) ⌝ }
+{
+    let mut told = Spu {
+        x1: 0,
+        y1: 0,
+        x2: 0,
+        y2: 0,
+        palette_sel: 0,
+        alpha: 0,
+        started: false,
+        start_delay_raw: 0,
+        stopped: false,
+        stop_delay_raw: 0,
+        forced_display: false,
+        top_rle_off: 0,
+        bot_rle_off: 0,
+        saw_chg_colcon: false,
+        band_words: 0,
+        codes: 0,
+    };
+    let mut pos = from;
+    while pos + 4 <= end {
+        let delay = word_at(unit, pos);
+        let next = word_at(unit, pos + 2) as usize;
+        match read_commands(unit, end, pos + 4, delay, told) {
+            ControlAnswer::Tells(after) => {
+                if next <= pos {
+                    return ControlAnswer::Tells(after);
+                }
+                told = after;
+                pos = next;
+            }
+            ControlAnswer::Refused(number) => {
+                return ControlAnswer::Refused(number);
+            }
+        }
+    }
+    ControlAnswer::Tells(told)
+}
+
+// What the control blocks of a unit tell: its record, the codes of its fields not yet counted.
+// Ruled out: selectors reset by a block; the last start or the first stop; a chain followed past a block that names no later place.
+pub fn parse_control(unit: &[u8]) -> ControlAnswer
+    ensures { λ r. ⌜ r ≡ controlAnswer (now (unit .entry)) ⌝ }
+{
+    if unit.len() < 4 {
+        return ControlAnswer::Refused(NO_HEAD);
+    }
+    let end = word_at(unit, 0) as usize;
+    let from = word_at(unit, 2) as usize;
+    if from < 4 {
+        return ControlAnswer::Refused(BAD_HEAD);
+    }
+    if end < from {
+        return ControlAnswer::Refused(BAD_HEAD);
+    }
+    if unit.len() < end {
+        return ControlAnswer::Refused(BAD_HEAD);
+    }
+    match read_chain(unit, end, from) {
+        ControlAnswer::Tells(spu) => {
+            if spu.x2 < spu.x1 {
+                return ControlAnswer::Refused(NO_AREA);
+            }
+            if spu.y2 < spu.y1 {
+                return ControlAnswer::Refused(NO_AREA);
+            }
+            ControlAnswer::Tells(spu)
+        }
+        ControlAnswer::Refused(number) => ControlAnswer::Refused(number),
+    }
+}
+
+// Where reading commands and storing words stand.
+struct Place {
+    at: usize,
+    to: usize,
+}
+
+// The bands of a colour change that was read before, its size word at p, stored from place `to` on.
+fn fill_change(unit: &[u8], end: usize, p: usize, words: &mut [u16], to: usize) -> Place
+    requires { ⌜ (end ≤ length (now unit)) × ((o : Order) × (changeAt (now unit) end p ≡ ok o) × (to + length (orderWords o) ≤ length (now words))) ⌝ }
+    ensures { λ r. ⌜ ((o : Order) → changeAt (now (unit .entry)) end p ≡ ok o → OrderFilled o p to (now (words .entry)) r (now (words .exit))) ⌝ }
+{
+    let size = word_at(unit, p) as usize;
+    let next = p + size;
+    match chg_colcon::parse_chg_colcon_payload(&unit[p + 2..next], words, to) {
+        BandAnswer::Words(n) => Place {
+            at: next,
+            to: to + n,
+        },
+        BandAnswer::Refused(_) => Place { at: next, to },
+    }
+}
+
+// The same of any command that was read before.
+fn fill_command(unit: &[u8], end: usize, at: usize, words: &mut [u16], to: usize) -> Place
+    requires { ⌜ (at < end) × (end ≤ length (now unit)) × ((o : Order) × (orderAt (now unit) end (at + 1) (byte (now unit) at) ≡ ok o) × (to + length (orderWords o) ≤ length (now words))) ⌝ }
+    ensures { λ r. ⌜ ((o : Order) → orderAt (now (unit .entry)) end (at + 1) (byte (now (unit .entry)) at) ≡ ok o → OrderFilled o (at + 1) to (now (words .entry)) r (now (words .exit))) ⌝ }
+{
+    let code = unit[at];
+    let p = at + 1;
+    if 7 <= code {
+        return fill_change(unit, end, p, words, to);
+    }
+    let size = taken(code);
+    Place { at: p + size, to }
+}
+
+// The bands of a block's commands that were read before, stored from place `start` on; answers the place after them.
+fn fill_commands(unit: &[u8], end: usize, from: usize, words: &mut [u16], start: usize) -> usize
+    requires { ⌜ (end ≤ length (now unit)) × ((cs : List Command) × (commandsAt (now unit) end from ≡ ok cs) × (start + length (blockWords cs) ≤ length (now words))) ⌝ }
+    ensures { λ r. ⌜ ((cs : List Command) → commandsAt (now (unit .entry)) end from ≡ ok cs → Filled (blockWords cs) start (now (words .entry)) r (now (words .exit))) ⌝ }
+{
+    let mut at = from;
+    let mut to = start;
+    while at < end {
+        if unit[at] == 255 {
+            return to;
+        }
+        let next = fill_command(unit, end, at, words, to);
+        at = next.at;
+        to = next.to;
+    }
+    to
+}
+
+// The same of a chain's blocks.
+fn fill_chain(unit: &[u8], end: usize, from: usize, words: &mut [u16])
+    requires { ⌜ (end ≤ length (now unit)) × (end < 65536) × (from < 65536) × ((bs : List Block) × (blocksAt (now unit) end (some from) ≡ ok bs) × (length (chainWords bs) ≤ length (now words))) ⌝ }
+    ensures { λ _. ⌜ ((bs : List Block) → blocksAt (now (unit .entry)) end (some from) ≡ ok bs → now (words .exit) ≡ sets (now (words .entry)) 0 (chainWords bs)) ⌝ }
+{
+    let mut pos = from;
+    let mut to: usize = 0;
+    while pos + 4 <= end {
+        let next = word_at(unit, pos + 2) as usize;
+        to = fill_commands(unit, end, pos + 4, words, to);
+        if next <= pos {
+            return;
+        }
+        pos = next;
+    }
+}
+
+// The bands of a unit whose control blocks were read before, stored as words.
+// Ruled out: bands of the last colour change alone; words past those of the bands.
+pub fn fill_bands(unit: &[u8], words: &mut [u16])
+    requires { ⌜ (IsOk (controlAt (now unit))) × (length (unitWords (now unit)) ≤ length (now words)) ⌝ }
+    ensures { λ _. ⌜ now (words .exit) ≡ sets (now (words .entry)) 0 (unitWords (now (unit .entry))) ⌝ }
+{
+    let end = word_at(unit, 0) as usize;
+    let from = word_at(unit, 2) as usize;
+    fill_chain(unit, end, from, words);
+}
