@@ -328,7 +328,7 @@ pub record Unit-read (u : List ℕ) : Type 0 where
   pub reads : controlAt u ≡ ok bs
   pub words : unitWords u ≡ chainWords bs
 
-control-is : (u : List ℕ) (bs : List Block) → controlAt u ≡ ok bs → Unit-read u
+pub control-is : (u : List ℕ) (bs : List Block) → controlAt u ≡ ok bs → Unit-read u
 unfolding controlAt
 control-is u bs e =
     let w = andThen-ok (chainAt u) (λ (l : List Block). check (hasArea (told l)) no-area (ok l)) e in

@@ -1,0 +1,82 @@
+-- `spu::decode_told` meets its contract: the lent lengths, then the rows, then the bands. Assumes nothing.
+use borrow.Author.Needs.{needs}
+use native.Mathlib.Omega.{arith}
+use Prim.Native.Nat.{_*_, _≤_, _<_}
+use mathlib.Core.Path.{_≡_, sym, ap, _∙_, subst}
+use lib.ListN.{length}
+use Rattle.grammar.specs.Bands.{bandWords}
+use Rattle.grammar.specs.Record.{told, width, height}
+use Rattle.control.specs.declared.Spu.{Spu}
+use Rattle.outcome.specs.Outcome.{Res, IsOk}
+use Rattle.spu.specs.declared.Layout.{Layout}
+use Rattle.spu.proofs.Turns.{area-small, short-map, short-bands, decoded-shows, decoded-stops, needs-words, words-fit, is-ok}
+use Rattle.spu.specs.Answers.{RowsDecoded}
+use Rattle.spu.proofs.decode_told.Statement.{statement}
+use Rattle.spu.proofs.decode_told.Tie as tie
+
+laid-out-requires : tie.Need-laid-out-requires
+laid-out-requires c κs = search needs
+
+mul-if1 : tie.Need-mul-if1
+mul-if1 c = omega (arith, area-small _ _ (c .before .laid-out .ensures .0) (c .before .laid-out .ensures .1))
+
+returns : tie.Need-returns
+returns c = short-map _ (c .before .before .before .before .before .before .pre .0) (c .before .before .before .before .before .before .pre .1) _ _ (subst (λ n. length (c .before .before .before .before .before .before .args .pixels .now) < n) (ap (λ (l : Layout). l .width * l .height) (c .before .before .laid-out .ensures .2 (c .before .before .before .before .before .before .pre .0) (c .before .before .before .before .before .before .pre .1))) (c .if1 .taken))
+
+returns-2 : tie.Need-returns-2
+returns-2 c = short-bands _ (c .before .before .before .before .before .before .before .before .pre .0) (c .before .before .before .before .before .before .before .before .pre .1) _ _ (subst (λ n. n ≤ length (c .before .before .before .before .before .before .before .before .args .pixels .now)) (ap (λ (l : Layout). l .width * l .height) (c .before .before .before .before .laid-out .ensures .2 (c .before .before .before .before .before .before .before .before .pre .0) (c .before .before .before .before .before .before .before .before .pre .1))) (c .before .before .if1 .left)) (subst (λ n. length (c .before .before .before .before .before .before .before .before .args .words .now) < n) (needs-words _ _ (c .before .before .before .before .before .before .before .before .pre .2)) (c .if2 .taken))
+
+decode-rows-requires : tie.Need-decode-rows-requires
+decode-rows-requires c κs = (c .before .before .before .before .before .before .before .before .before .pre .0, c .before .before .before .before .before .before .before .before .before .pre .1, c .before .before .before .before .before .before .before .before .before .pre .2, (subst (λ n. n ≤ length (c .before .before .before .before .before .before .before .before .before .args .pixels .now)) (ap (λ (l : Layout). l .width * l .height) (c .before .before .before .before .before .laid-out .ensures .2 (c .before .before .before .before .before .before .before .before .before .pre .0) (c .before .before .before .before .before .before .before .before .before .pre .1))) (c .before .before .before .if1 .left)))
+
+enum-known-counts : tie.Need-enum-known-counts
+enum-known-counts c = search needs
+
+fill-bands-requires : tie.Need-fill-bands-requires
+fill-bands-requires c κs = (is-ok _ _ (c .before .before .before .before .before .before .before .before .before .before .before .before .before .before .before .before .pre .1), words-fit _ _ _ (c .before .before .before .before .before .before .before .before .before .before .before .before .before .before .before .before .pre .1) (subst (λ n. n ≤ length (c .before .before .before .before .before .before .before .before .before .before .before .before .before .before .before .before .args .words .now)) (needs-words _ _ (c .before .before .before .before .before .before .before .before .before .before .before .before .before .before .before .before .pre .2)) (c .before .before .before .before .before .before .before .before .if2 .left)))
+
+with-codes-requires : tie.Need-with-codes-requires
+with-codes-requires c κs = search needs
+
+enum-known-number : tie.Need-enum-known-number
+enum-known-number c = search needs
+
+same-length : tie.Need-same-length
+same-length c = search needs
+
+same-length-2 : tie.Need-same-length-2
+same-length-2 c = search needs
+
+returns-3 : tie.Need-returns-3
+returns-3 c =
+    let bs = c .before .before .before .before .before .before .before .before .before .before .before .before .before .before .before .before .before .before .before .before .pre .0 in
+    let e = c .before .before .before .before .before .before .before .before .before .before .before .before .before .before .before .before .before .before .before .before .pre .1 in
+    decoded-shows _ bs e _ _ (subst (λ n. n ≤ length (c .before .before .before .before .before .before .before .before .before .before .before .before .before .before .before .before .before .before .before .before .args .pixels .now)) (ap (λ (l : Layout). l .width * l .height) (c .before .before .before .before .before .before .before .before .before .before .before .before .before .before .before .before .laid-out .ensures .2 (c .before .before .before .before .before .before .before .before .before .before .before .before .before .before .before .before .before .before .before .before .pre .0) (c .before .before .before .before .before .before .before .before .before .before .before .before .before .before .before .before .before .before .before .before .pre .1))) (c .before .before .before .before .before .before .before .before .before .before .before .before .before .before .if1 .left)) (subst (λ n. n ≤ length (c .before .before .before .before .before .before .before .before .before .before .before .before .before .before .before .before .before .before .before .before .args .words .now)) (needs-words _ _ (c .before .before .before .before .before .before .before .before .before .before .before .before .before .before .before .before .before .before .before .before .pre .2)) (c .before .before .before .before .before .before .before .before .before .before .before .before .if2 .left)) _ _ _ _ _ (c .before .before .before .before .before .before .counts .given .1) (c .before .before .before .before .before .before .before .before .before .before .decode-rows .ensures bs e) (c .before .before .before .fill-bands .ensures) (c .with-codes .ensures (told bs) (c .before .before .before .before .before .before .before .before .before .before .before .before .before .before .before .before .before .before .before .before .pre .2))
+
+same-length-3 : tie.Need-same-length-3
+same-length-3 c = search needs
+
+returns-4 : tie.Need-returns-4
+returns-4 c =
+    let bs = c .before .before .before .before .before .before .before .before .before .before .before .before .before .before .before .pre .0 in
+    let e = c .before .before .before .before .before .before .before .before .before .before .before .before .before .before .before .pre .1 in
+    decoded-stops _ bs e _ _ (subst (λ n. n ≤ length (c .before .before .before .before .before .before .before .before .before .before .before .before .before .before .before .args .pixels .now)) (ap (λ (l : Layout). l .width * l .height) (c .before .before .before .before .before .before .before .before .before .before .before .laid-out .ensures .2 (c .before .before .before .before .before .before .before .before .before .before .before .before .before .before .before .pre .0) (c .before .before .before .before .before .before .before .before .before .before .before .before .before .before .before .pre .1))) (c .before .before .before .before .before .before .before .before .before .if1 .left)) (subst (λ n. n ≤ length (c .before .before .before .before .before .before .before .before .before .before .before .before .before .before .before .args .words .now)) (needs-words _ _ (c .before .before .before .before .before .before .before .before .before .before .before .before .before .before .before .pre .2)) (c .before .before .before .before .before .before .before .if2 .left)) _ _ _ (c .before .number .given .1) (c .before .before .before .before .before .decode-rows .ensures bs e)
+
+pub decode-told-spec : {M : Type 1} → statement M
+decode-told-spec =
+    tie.close
+    (tie.spec
+    laid-out-requires
+    mul-if1
+    returns
+    returns-2
+    decode-rows-requires
+    enum-known-counts
+    fill-bands-requires
+    with-codes-requires
+    enum-known-number
+    same-length
+    same-length-2
+    returns-3
+    same-length-3
+    returns-4)

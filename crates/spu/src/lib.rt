@@ -1,0 +1,206 @@
+// A whole unit: its control blocks, the rows of its two fields in the index map, and its bands as words (docs/FORMAT.md, sections 3 to 5).
+use control::ControlAnswer;
+use control::Spu;
+use outcome::NO_TOP_FIELD;
+use outcome::SHORT_PIXELS;
+use outcome::SHORT_WORDS;
+use rle::FieldAnswer;
+use rle::Span;
+ghost use mathlib.Core.Path.{_≡_};
+ghost use Prim.Native.Nat.{ℕ, _≤_, _<_, _-_, _+_, _*_};
+ghost use mathlib.Core.List.{List};
+ghost use lib.ListN.{length};
+ghost use Rattle.grammar.specs.Control.{Block};
+ghost use Rattle.grammar.specs.Record.{Told, told, width, height};
+ghost use Rattle.grammar.specs.Picture.{topEnd};
+ghost use Rattle.spu.specs.Unit.{offsetsOf};
+ghost use Rattle.outcome.specs.Outcome.{ok};
+ghost use Rattle.control.specs.Chain.{controlAt};
+ghost use Rattle.control.specs.Answers.{spuOf};
+ghost use Rattle.rle.specs.Answers.{fieldAnswer};
+ghost use Rattle.spu.specs.Unit.{hasBottom, rowsAt, unitAt};
+ghost use Rattle.spu.specs.Answers.{layoutOf, spuAnswer, RowsDecoded, Decoded};
+
+// What a unit gives.
+pub enum SpuAnswer {
+    // Its record.
+    Shows(Spu),
+    // The number of the refusal.
+    Refused(u8),
+}
+
+fn word_of(a: u8, b: u8) -> usize
+    ensures { λ r. ⌜ r ≡ a * 256 + b ⌝ }
+{
+    a as usize * 256 + b as usize
+}
+
+// The byte before which the top field ends.
+fn ending(control: usize, top: usize, bottom: usize) -> usize
+    ensures { λ r. ⌜ r ≡ topEnd control (offsetsOf top bottom) ⌝ }
+{
+    if top < bottom {
+        if bottom < control {
+            return bottom;
+        }
+        return control;
+    }
+    control
+}
+
+// Whether there is a bottom field.
+fn has_bottom(control: usize, bottom: usize) -> bool
+    ensures { λ r. ⌜ r ≡ hasBottom control bottom ⌝ }
+{
+    if 0 < bottom {
+        return bottom < control;
+    }
+    false
+}
+
+// The size of a picture, and where its fields stand in the unit.
+struct Layout {
+    width: usize,
+    height: usize,
+    // The unit's end, and the place of its first control block.
+    end: usize,
+    control: usize,
+    top: usize,
+    top_end: usize,
+    bottom: usize,
+    // Whether there is a bottom field.
+    shown: bool,
+}
+
+// The layout of a unit whose control blocks tell `spu`.
+fn laid_out(unit: &[u8], spu: Spu) -> Layout
+    requires { ⌜ ((bs : List Block) × (controlAt (now unit) ≡ ok bs) × (spu ≡ spuOf (told bs) 0)) ⌝ }
+    ensures { λ r. ⌜ (r .width ≤ 65536) × (r .height ≤ 65536) × ((bs : List Block) → controlAt (now (unit .entry)) ≡ ok bs → r ≡ layoutOf (now (unit .entry)) (told bs)) ⌝ }
+{
+    let width = spu.x2 as usize + 1 - spu.x1 as usize;
+    let height = spu.y2 as usize + 1 - spu.y1 as usize;
+    let end = word_of(unit[0], unit[1]);
+    let control = word_of(unit[2], unit[3]);
+    let top = spu.top_rle_off as usize;
+    let bottom = spu.bot_rle_off as usize;
+    let top_end = ending(control, top, bottom);
+    let shown = has_bottom(control, bottom);
+    Layout {
+        width,
+        height,
+        end,
+        control,
+        top,
+        top_end,
+        bottom,
+        shown,
+    }
+}
+
+// The codes of the rows of a unit whose control blocks tell `spu`, counted.
+// Ruled out: a bottom field at offset 0; a top field that goes on into the bottom field.
+pub fn measure_rows(unit: &[u8], spu: Spu) -> FieldAnswer
+    requires { ⌜ ((bs : List Block) × (controlAt (now unit) ≡ ok bs) × (spu ≡ spuOf (told bs) 0)) ⌝ }
+    ensures { λ r. ⌜ ((bs : List Block) → controlAt (now (unit .entry)) ≡ ok bs → r ≡ fieldAnswer (width (told bs)) (rowsAt (now (unit .entry)) (told bs))) ⌝ }
+{
+    let l = laid_out(unit, spu);
+    if l.end <= l.top {
+        return FieldAnswer::Refused(NO_TOP_FIELD);
+    }
+    rle::measure_fields(
+        unit,
+        Span {
+            from: l.top,
+            to: l.top_end,
+        },
+        Span {
+            from: l.bottom,
+            to: l.control,
+        },
+        l.shown,
+        l.width,
+        l.height,
+    )
+}
+
+// The same rows in the index map, which is as found on a refusal.
+// Ruled out: a row that stays 0 left as found.
+pub fn decode_rows(unit: &[u8], spu: Spu, pixels: &mut [u8]) -> FieldAnswer
+    requires { ⌜ ((bs : List Block) × (controlAt (now unit) ≡ ok bs) × (spu ≡ spuOf (told bs) 0) × (width (told bs) * height (told bs) ≤ length (now pixels))) ⌝ }
+    ensures { λ r. ⌜ ((bs : List Block) → controlAt (now (unit .entry)) ≡ ok bs → RowsDecoded (now (unit .entry)) (told bs) (now (pixels .entry)) r (now (pixels .exit))) ⌝ }
+{
+    let l = laid_out(unit, spu);
+    if l.end <= l.top {
+        return FieldAnswer::Refused(NO_TOP_FIELD);
+    }
+    rle::decode_rle_fields(
+        unit,
+        Span {
+            from: l.top,
+            to: l.top_end,
+        },
+        Span {
+            from: l.bottom,
+            to: l.control,
+        },
+        l.shown,
+        l.width,
+        l.height,
+        pixels,
+    )
+}
+
+// The record with the number of codes in it.
+fn with_codes(spu: Spu, codes: usize) -> Spu
+    ensures { λ r. ⌜ ((t : Told) → spu ≡ spuOf t 0 → r ≡ spuOf t codes) ⌝ }
+{
+    let mut s = spu;
+    s.codes = codes;
+    s
+}
+
+// A unit's record and the number of its codes, with no map and no words.
+pub fn measure_spu(unit: &[u8]) -> SpuAnswer
+    ensures { λ r. ⌜ r ≡ spuAnswer (unitAt (now (unit .entry))) ⌝ }
+{
+    match control::parse_control(unit) {
+        ControlAnswer::Tells(spu) => match measure_rows(unit, spu) {
+            FieldAnswer::Rows(counts) => SpuAnswer::Shows(with_codes(spu, counts.codes)),
+            FieldAnswer::Refused(number) => SpuAnswer::Refused(number),
+        },
+        ControlAnswer::Refused(number) => SpuAnswer::Refused(number),
+    }
+}
+
+// The rest of a unit whose control blocks tell `spu`.
+fn decode_told(unit: &[u8], spu: Spu, pixels: &mut [u8], words: &mut [u16]) -> SpuAnswer
+    requires { ⌜ ((bs : List Block) × (controlAt (now unit) ≡ ok bs) × (spu ≡ spuOf (told bs) 0)) ⌝ }
+    ensures { λ r. ⌜ Decoded (now (unit .entry)) (now (pixels .entry)) (now (words .entry)) r (now (pixels .exit)) (now (words .exit)) ⌝ }
+{
+    let l = laid_out(unit, spu);
+    if pixels.len() < l.width * l.height {
+        return SpuAnswer::Refused(SHORT_PIXELS);
+    }
+    if words.len() < spu.band_words {
+        return SpuAnswer::Refused(SHORT_WORDS);
+    }
+    match decode_rows(unit, spu, pixels) {
+        FieldAnswer::Rows(counts) => {
+            control::fill_bands(unit, words);
+            SpuAnswer::Shows(with_codes(spu, counts.codes))
+        }
+        FieldAnswer::Refused(number) => SpuAnswer::Refused(number),
+    }
+}
+
+// A unit's record, its picture as colour numbers in the front of `pixels`, and its bands in the front of `words`. On a refusal both are as
+// found.
+// Ruled out: rows painted before the last is known to be whole; a row without codes left as found instead of 0.
+pub fn parse_and_decode_spu(unit: &[u8], pixels: &mut [u8], words: &mut [u16]) -> SpuAnswer
+    ensures { λ r. ⌜ Decoded (now (unit .entry)) (now (pixels .entry)) (now (words .entry)) r (now (pixels .exit)) (now (words .exit)) ⌝ }
+{
+    match control::parse_control(unit) {
+        ControlAnswer::Tells(spu) => decode_told(unit, spu, pixels, words),
+        ControlAnswer::Refused(number) => SpuAnswer::Refused(number),
+    }
+}
