@@ -4,13 +4,18 @@ use mathlib.Core.Path.{_≡_, refl, ap}
 use mathlib.Core.List.{List, [], map}
 use lib.ListN.{getD}
 use Rattle.outcome.specs.Lists.{listFuel, listFrom}
-use Rattle.grammar.specs.Bytes.{nibble, nibbles}
+use Rattle.grammar.specs.Bytes.{word, nibble, nibbles}
 use Rattle.grammar.specs.Rows.{paints, afterCodes, align}
-use Rattle.grammar.specs.Pixels.{rowPixels}
+use Rattle.grammar.specs.Pixels.{rowPixels, codesIn, indexMap}
+use Rattle.grammar.specs.Record.{untold, tellBlock, tellChain}
+use Rattle.grammar.specs.Picture.{topEnd}
 use Rattle.rle.specs.Codes.{codeFrom, codeAt, rowAt, fieldAt}
 use Rattle.rle.specs.Field.{rowsFrom, paintField, decoded}
 use Rattle.rle.specs.Answers.{rowCounts, fieldCounts}
-use Rattle.cards.specs.Table.{Card, code, field, fields, table}
+use Rattle.rle.specs.Fields.{weave, lowerAt, fieldsAt}
+use Rattle.control.specs.Chain.{plainAt, changeAt, orderAt, commandAt, commandsAt, blockAt, blocksAt, headFits, chainAt, controlAt}
+use Rattle.spu.specs.Unit.{rowsAt, unitAt}
+use Rattle.cards.specs.Table.{Card, code, field, fields, unit, table}
 
 abbrev pub got : List (List ℕ)
 got = map (λ (c : Card). c .got) table
@@ -19,7 +24,7 @@ abbrev pub want : List (List ℕ)
 want = map (λ (c : Card). c .want) table
 
 pub tabled : got ≡ want
-unfolding table code field fields listFuel listFrom nibble nibbles paints afterCodes align rowPixels codeFrom codeAt rowAt fieldAt rowsFrom paintField decoded rowCounts fieldCounts
+unfolding table code field fields unit listFuel listFrom word nibble nibbles paints afterCodes align rowPixels codesIn indexMap untold tellBlock tellChain topEnd codeFrom codeAt rowAt fieldAt rowsFrom paintField decoded rowCounts fieldCounts weave lowerAt fieldsAt plainAt changeAt orderAt commandAt commandsAt blockAt blocksAt headFits chainAt controlAt rowsAt unitAt
 tabled = refl
 
 pub each : (k : ℕ) → getD got k [] ≡ getD want k []

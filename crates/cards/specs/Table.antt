@@ -5,9 +5,12 @@ use mathlib.Core.List.{List, [], _∷_, _++_}
 use lib.ListN.{length, replicate}
 use Rattle.outcome.specs.Outcome.{Res, ok, refuse, listed}
 use Rattle.grammar.specs.Rows.{colour, paints}
+use Rattle.grammar.specs.Pixels.{codesIn, indexMap}
+use Rattle.grammar.specs.Record.{told, delayOf, width, height}
 use Rattle.rle.specs.Codes.{codeAt}
 use Rattle.rle.specs.Field.{decoded, paintField}
 use Rattle.rle.specs.Answers.{fieldCounts}
+use Rattle.spu.specs.Unit.{unitAt}
 
 pub record Card : Type 0 where
   pub got : List ℕ
@@ -34,6 +37,15 @@ unfoldable pub fields : List ℕ → List ℕ → ℕ → ℕ → List ℕ → L
 fields top bottom w h px =
     paintField w w (listed (decoded bottom w h 1 px)) (paintField w 0 (listed (decoded top w h 0 px)) px)
 
+-- the unit u, with no map and no words lent: width, height, selectors, alphas, both delays, the number of codes, and the map
+unfoldable pub unit : List ℕ → List ℕ
+unit u =
+    outcome
+    (λ l.
+    let t = told (l .blocks) in
+    width t ∷ height t ∷ t .selected ∷ t .alpha ∷ delayOf (t .starts) ∷ delayOf (t .stops) ∷ codesIn (l .rows) ∷ indexMap (width t) (l .rows))
+    (unitAt u)
+
 unfoldable pub table : List Card
 table =
     -- each length of code at its least and its greatest run, and a fill (FORMAT 5.2 to 5.4)
@@ -54,4 +66,14 @@ table =
     ∷ card (field (0x00 ∷ 0x01 ∷ []) 2 2 0 (9 ∷ 9 ∷ 9 ∷ 9 ∷ [])) (0 ∷ 1 ∷ 1 ∷ 1 ∷ 9 ∷ 9 ∷ [])
     ∷ card (field (0x60 ∷ 0x00 ∷ 0x30 ∷ []) 2 2 1 (9 ∷ 9 ∷ 9 ∷ 9 ∷ [])) (0 ∷ 2 ∷ 9 ∷ 9 ∷ 2 ∷ 3 ∷ [])
     ∷ card (fields (0x00 ∷ 0x01 ∷ []) (0x60 ∷ 0x00 ∷ 0x30 ∷ []) 2 2 (0 ∷ 0 ∷ 0 ∷ 0 ∷ 9 ∷ [])) (1 ∷ 1 ∷ 2 ∷ 3 ∷ 9 ∷ [])
+    -- a unit of four bytes: 1 by 1, its own first bytes are the field; one whose control offset is past its end; no bytes at all
+    ∷ card (unit (0x00 ∷ 0x04 ∷ 0x00 ∷ 0x04 ∷ [])) (0 ∷ 1 ∷ 1 ∷ 0 ∷ 0 ∷ 0 ∷ 0 ∷ 1 ∷ 0 ∷ [])
+    ∷ card (unit (0x00 ∷ 0x04 ∷ 0x00 ∷ 0x05 ∷ [])) (16 ∷ [])
+    ∷ card (unit []) (15 ∷ [])
+    -- 2 by 2, 1 1 2 3, as a whole unit: selectors 0 1 3 2, alphas 0 F F F
+    ∷ card
+    (unit
+    (0x00 ∷ 0x21 ∷ 0x00 ∷ 0x09 ∷ 0x00 ∷ 0x01 ∷ 0x60 ∷ 0x00 ∷ 0x30 ∷ 0x00 ∷ 0x00 ∷ 0x00 ∷ 0x09 ∷ 0x03 ∷ 0x01 ∷ 0x32 ∷ 0x04 ∷ 0x0F ∷ 0xFF ∷ 0x05 ∷ 0x00 ∷ 0x00 ∷ 0x01 ∷ 0x00 ∷ 0x00
+    ∷ 0x01 ∷ 0x06 ∷ 0x00 ∷ 0x04 ∷ 0x00 ∷ 0x06 ∷ 0x01 ∷ 0xFF ∷ []))
+    (0 ∷ 2 ∷ 2 ∷ 0x0132 ∷ 0x0FFF ∷ 0 ∷ 0 ∷ 3 ∷ 1 ∷ 1 ∷ 2 ∷ 3 ∷ [])
     ∷ []

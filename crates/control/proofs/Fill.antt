@@ -3,18 +3,18 @@ use Prim.Native.Nat.{ℕ, _+_, _≤_, _<_}
 use native.Mathlib.Omega.{arith}
 use mathlib.Core.Path.{_≡_, refl, sym, ap, _∙_, subst}
 use mathlib.Core.Bool.{Bool, true, false, cond}
-use mathlib.Core.Logic.{_⊎_, inl, inr, ⊎-elim}
+use mathlib.Core.Logic.{_⊎_, inl, inr}
 use mathlib.Core.Option.{Option, some, none}
 use mathlib.Core.List.{List, [], _∷_, _++_, append-assoc, append-nil}
 use lib.ListN.{length, length-append}
 use lib.Dec.{leb, eqb}
 use lib.Seq.{sets, slice, length-sets}
-use borrow.Author.Tests.{leb-true, le-leb, lt-leb, eqb-true, eq-eqb, ne-eqb, lt-ltb, le-ltb}
-use Rattle.outcome.specs.Outcome.{Res, ok, refuse, IsOk, no-area, check, andThen, consRes, mapRes, listed, cut-parameters, small-size, unknown-command}
+use borrow.Author.Tests.{leb-true, le-leb, lt-leb, eq-eqb, ne-eqb, lt-ltb, le-ltb}
+use Rattle.outcome.specs.Outcome.{Res, ok, refuse, IsOk, no-area, check, andThen, consRes, listed, cut-parameters, small-size, unknown-command}
 use Rattle.outcome.proofs.Laws.{ok-not-refuse, ok-injective, check-ok, mapRes-ok, andThen-ok, consRes-ok, le-or-lt, sets-append}
 use Rattle.grammar.specs.Bytes.{byte, word}
-use Rattle.grammar.specs.Bands.{Band, bandWords}
-use Rattle.grammar.specs.Control.{Order, forced-start, start, stop, selectors, alphas, area, offsets, colours, codeOf, sizeOf, Says, Command, commandEnd, Block, lengthWord, controlWord, IsChain}
+use Rattle.grammar.specs.Bands.{bandWords}
+use Rattle.grammar.specs.Control.{Order, forced-start, start, stop, selectors, alphas, area, offsets, colours, codeOf, sizeOf, Command, commandEnd, Block, lengthWord, controlWord, IsChain}
 use Rattle.grammar.specs.Record.{Told, untold, tell, tellBlock, tellChain, told}
 use Rattle.chg_colcon.specs.Bands.{bandsOf}
 use Rattle.chg_colcon.specs.Answers.{countOf, stored, Stored}

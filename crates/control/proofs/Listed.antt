@@ -1,13 +1,13 @@
 -- The bands that a payload's words hold are the ones that the grammar lists there. Assumes nothing.
-use Prim.Native.Nat.{ℕ, zero, suc, _+_, _*_, _≤_}
+use Prim.Native.Nat.{ℕ, suc, _+_, _*_, _≤_}
 use native.Mathlib.Omega.{arith}
 use mathlib.Core.Path.{_≡_, refl, sym, ap, _∙_, subst}
 use mathlib.Core.Logic.{inl, inr}
 use mathlib.Core.List.{List, [], _∷_, _++_}
 use lib.ListN.{length, length-append}
 use lib.Seq.{slice}
-use Rattle.outcome.specs.Outcome.{Res, ok, refuse, mapRes, no-band-list}
-use Rattle.outcome.proofs.Laws.{ok-not-refuse, ok-injective, mapRes-ok}
+use Rattle.outcome.specs.Outcome.{ok}
+use Rattle.outcome.proofs.Laws.{mapRes-ok}
 use Rattle.grammar.specs.Bands.{Entry, Band, Entries, Bands, bandEnd, entryWords, bandWords}
 use Rattle.chg_colcon.specs.Bands.{bandsOf}
 use Rattle.chg_colcon.proofs.Grammar.{bands-complete, bands-iff}

@@ -10,7 +10,7 @@ use lib.ListN.{length, length-append}
 use lib.Dec.{leb}
 use lib.Seq.{slice}
 use borrow.Author.Tests.{le-leb, lt-leb, eq-eqb, ne-eqb, lt-ltb, le-ltb}
-use Rattle.outcome.specs.Outcome.{Res, ok, refuse, check, andThen, consRes, mapRes, no-head, bad-head, no-area, cut-parameters, small-size, no-band-list, unknown-command}
+use Rattle.outcome.specs.Outcome.{Res, ok, refuse, check, andThen, consRes, mapRes, no-head, bad-head, no-area, cut-parameters, small-size, unknown-command}
 use Rattle.outcome.proofs.Laws.{ok-injective, le-or-lt}
 use Rattle.grammar.specs.Bytes.{byte, word}
 use Rattle.grammar.specs.Bands.{Band, bandWords}

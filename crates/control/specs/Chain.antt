@@ -9,7 +9,6 @@ use lib.ListN.{length, getD}
 use Rattle.outcome.specs.Outcome.{Res, ok, refuse, check, andThen, mapRes, no-head, bad-head, cut-parameters, small-size, unknown-command, no-area}
 use Rattle.outcome.specs.Lists.{listFrom}
 use Rattle.grammar.specs.Bytes.{byte, word, nibbles}
-use Rattle.grammar.specs.Bands.{Band}
 use Rattle.grammar.specs.Control.{Order, forced-start, start, stop, selectors, alphas, area, offsets, colours, sizeOf, Command, commandEnd, Block, lengthWord, controlWord}
 use Rattle.grammar.specs.Record.{Told, told}
 use Rattle.control.specs.Listed.{bandsAt}

@@ -1,13 +1,18 @@
 -- Cards for what listed parts give. The readers share some of it with the grammar, and the claim so does not guard it: a code's run and
--- colour, the fill, the clip, alignment, pixels, the number of codes. The rest: words, what bands are stored as, and what they give at a
--- place. One test over the table. Assumes nothing.
+-- colour, the fill, the clip, alignment, pixels, the number of codes. The rest: words, what bands are stored as, what they give at a
+-- place, what blocks tell, and where the top field ends. One test over the table. Assumes nothing.
 use Prim.Native.Nat.{ℕ}
 use mathlib.Core.Path.{_≡_, refl}
 use mathlib.Core.List.{List, [], _∷_, map}
+use mathlib.Core.Bool.{cond}
 use mathlib.Core.Option.{Option, some, none}
+use lib.ListN.{length, drop}
 use Rattle.grammar.specs.Bytes.{nibble, nibbles, word}
 use Rattle.grammar.specs.Rows.{Code, code, colour, paints, afterCodes, align}
-use Rattle.grammar.specs.Pixels.{rowPixels, codesIn}
+use Rattle.grammar.specs.Pixels.{rowPixels, codesIn, indexMap}
+use Rattle.grammar.specs.Control.{Order, forced-start, start, stop, selectors, alphas, area, offsets, colours, Command, commandEnd, Block}
+use Rattle.grammar.specs.Record.{Told, untold, tellBlock, tellChain, told, delayOf, width, height}
+use Rattle.grammar.specs.Picture.{evens, odds, topEnd}
 use Rattle.grammar.specs.Bands.{Entry, Band, entryWords, bandWords, bandEnd}
 use Rattle.grammar.specs.Look.{Look, rightmost, lastLook, lookAt}
 
@@ -43,6 +48,31 @@ abbrev given : Option Look → List ℕ
 given none = []
 given (some l) = l .selectors ∷ l .alphas ∷ []
 
+-- two blocks of delays 7 and 9: selectors, a forced start and a stop; a start, a stop, alphas, an area, offsets and a colour change
+abbrev command : ℕ → Order → Command
+command p o = record { place = p; order = o }
+
+abbrev blocks : List Block
+blocks =
+    record { place = 9; delay = 7; next = 20; commands = command 13 (selectors 0x0132) ∷ command 16 forced-start ∷ command 17 stop ∷ [] }
+    ∷ record {
+      place = 20;
+      delay = 9;
+      next = 20;
+      commands = command 24 start ∷ command 25 stop ∷ command 26 (alphas 0x0FFF) ∷ command 29 (area 3 8 5 6) ∷ command 36 (offsets 4 6) ∷ command 41 (colours 32 bands) ∷ [];
+    }
+    ∷ []
+
+abbrev head : List Block → List Command
+head [] = []
+head (b ∷ bs) = b .commands
+
+-- numbers of what was told
+abbrev listing : Told → List ℕ
+listing t =
+    t .at .x1 ∷ t .at .x2 ∷ t .at .y1 ∷ t .at .y2 ∷ width t ∷ height t ∷ t .selected ∷ t .alpha ∷ delayOf (t .starts) ∷ delayOf (t .stops)
+    ∷ cond (t .forced) 1 0 ∷ t .fields .top ∷ t .fields .bottom ∷ cond (t .changed) 1 0 ∷ length (bandWords (t .bands)) ∷ []
+
 cards : List Card
 cards =
     card (nibble (0xA3 ∷ 0x5C ∷ []) 0 ∷ nibble (0xA3 ∷ 0x5C ∷ []) 1 ∷ nibble (0xA3 ∷ 0x5C ∷ []) 3 ∷ []) (10 ∷ 3 ∷ 12 ∷ [])
@@ -76,8 +106,19 @@ cards =
     ∷ card (given (lookAt 8 10 bands)) []
     -- on a line of two bands, where the later one starts right of the column
     ∷ card (given (lookAt 6 6 bands)) (1 ∷ 2 ∷ [])
+    -- nothing told; two blocks: the first start, the last stop, selectors of the first block
+    ∷ card (listing (told [])) (0 ∷ 0 ∷ 0 ∷ 0 ∷ 1 ∷ 1 ∷ 0 ∷ 0 ∷ 0 ∷ 0 ∷ 0 ∷ 0 ∷ 0 ∷ 0 ∷ 0 ∷ [])
+    ∷ card (listing (told blocks)) (3 ∷ 8 ∷ 5 ∷ 6 ∷ 6 ∷ 2 ∷ 0x0132 ∷ 0x0FFF ∷ 7 ∷ 9 ∷ 1 ∷ 4 ∷ 6 ∷ 1 ∷ 18 ∷ [])
+    -- a later start alone, of the other kind
+    ∷ card (listing (told (drop 1 blocks))) (3 ∷ 8 ∷ 5 ∷ 6 ∷ 6 ∷ 2 ∷ 0 ∷ 0x0FFF ∷ 9 ∷ 9 ∷ 0 ∷ 4 ∷ 6 ∷ 1 ∷ 18 ∷ [])
+    ∷ card (map (λ (c : Command). commandEnd c) (head blocks)) (16 ∷ 17 ∷ 18 ∷ [])
+    -- the bottom field follows, stands before the top field, starts past the control blocks
+    ∷ card (topEnd 30 (record { top = 4; bottom = 9 }) ∷ topEnd 30 (record { top = 9; bottom = 4 }) ∷ topEnd 30 (record { top = 4; bottom = 33 }) ∷ []) (9 ∷ 30 ∷ 30 ∷ [])
+    ∷ card (evens (1 ∷ 2 ∷ 3 ∷ 4 ∷ 5 ∷ [])) (1 ∷ 3 ∷ 5 ∷ [])
+    ∷ card (odds (1 ∷ 2 ∷ 3 ∷ 4 ∷ 5 ∷ [])) (2 ∷ 4 ∷ [])
+    ∷ card (indexMap 6 (row ∷ [] ∷ row ∷ [])) (3 ∷ 2 ∷ 2 ∷ 2 ∷ 2 ∷ 1 ∷ 0 ∷ 0 ∷ 0 ∷ 0 ∷ 0 ∷ 0 ∷ 3 ∷ 2 ∷ 2 ∷ 2 ∷ 2 ∷ 1 ∷ [])
     ∷ []
 
 tabled : map (λ c. c .got) cards ≡ map (λ c. c .want) cards
-unfolding cards nibble nibbles paints afterCodes align rowPixels codesIn word entryWords bandWords rightmost lastLook lookAt
+unfolding cards nibble nibbles paints afterCodes align rowPixels codesIn indexMap word entryWords bandWords rightmost lastLook lookAt untold tellBlock tellChain topEnd evens
 tabled = refl

@@ -1,6 +1,6 @@
 -- The rows of a unit's picture, from its two fields: conditions on a finished list of rows (FORMAT 3.7, 3.8).
 -- They find no row. Assumes nothing: these are definitions.
-use Prim.Native.Nat.{ℕ, _+_, _*_, _≤_, _<_, min}
+use Prim.Native.Nat.{ℕ, _*_, _≤_, _<_, min}
 use mathlib.Core.Path.{_≡_}
 use mathlib.Core.Bool.{Bool, cond}
 use mathlib.Core.Logic.{_⊎_}

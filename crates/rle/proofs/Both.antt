@@ -5,12 +5,11 @@ use native.Mathlib.Nat.{suc-mul, add-mul, mul-comm, mul-assoc, mul-left-comm, mu
 use native.Mathlib.Omega.{arith}
 use mathlib.Core.Path.{_≡_, refl, sym, ap, _∙_}
 use mathlib.Core.Bool.{Bool, true, false, cond}
-use mathlib.Core.Logic.{⊎-elim}
 use mathlib.Core.List.{List, [], _∷_}
 use lib.ListN.{length, replicate, length-replicate}
 use lib.Seq.{sets, slice}
 use Rattle.outcome.specs.Outcome.{Res, ok, refuse, andThen, listed, IsOk, field-ran-out, mapRes}
-use Rattle.outcome.proofs.Laws.{ok-injective, ok-not-refuse, andThen-ok, andThen-refuse}
+use Rattle.outcome.proofs.Laws.{ok-injective, andThen-ok}
 use Rattle.grammar.specs.Rows.{Code, paints, RowCodes, afterCodes, align, FieldRows}
 use Rattle.grammar.specs.Pixels.{rowPixels, indexMap}
 use Rattle.rle.specs.Codes.{fieldAt}
@@ -288,20 +287,6 @@ module _ (u : List ℕ) (t e b f : ℕ) (shown : Bool) (w h : ℕ) where
       let x = andThen-ok (fieldAt u e w (rowsFrom 0 h) (2 * t)) (λ a. andThen (lowerAt u b f shown w (rowsFrom 1 h)) (λ c. ok (weave a c))) q in
       let y = andThen-ok (lowerAt u b f shown w (rowsFrom 1 h)) (λ c. ok (weave (x .0) c)) (x .2) in
       (x .0, y .0, x .1, y .1, ok-injective (y .2))
-
-  lower-refuses : (s : Bool) (k : ℕ) → lowerAt u b f s w (rowsFrom 1 h) ≡ refuse k → k ≡ field-ran-out
-  unfolding lowerAt
-  lower-refuses true k q = field-refuses u f w (rowsFrom 1 h) (2 * b) k q
-  lower-refuses false k q = ok-not-refuse (sym q)
-
-  pub fields-refuses : (k : ℕ) → fieldsAt u t e b f shown w h ≡ refuse k → k ≡ field-ran-out
-  unfolding fieldsAt
-  fields-refuses k q =
-      ⊎-elim (λ r. field-refuses u e w (rowsFrom 0 h) (2 * t) k r)
-      (λ r.
-      ⊎-elim (λ g. lower-refuses shown k g) (λ g. ok-not-refuse (sym (g .2)))
-      (andThen-refuse (lowerAt u b f shown w (rowsFrom 1 h)) (λ c. ok (weave (r .0) c)) (r .2)))
-      (andThen-refuse (fieldAt u e w (rowsFrom 0 h) (2 * t)) (λ a. andThen (lowerAt u b f shown w (rowsFrom 1 h)) (λ c. ok (weave a c))) q)
 
 -- a picture of no rows
 pub fields-none : (u : List ℕ) (t e b f : ℕ) (shown : Bool) (w h : ℕ) (px : List ℕ) → h ≡ 0 → FieldsDecoded u t e b f shown w h px (field-answer.Rows nothing) px

@@ -6,17 +6,17 @@ use mathlib.Core.Bool.{Bool, true, false, cond}
 use mathlib.Core.Logic.{⊎-elim}
 use mathlib.Core.List.{List, [], _∷_}
 use lib.ListN.{length, take, drop, drop-of-length-le}
-use lib.Seq.{slice, sets, take-add, drop-at, getD-take, getD-drop, length-take-le, length-slice}
+use lib.Seq.{slice, sets, getD-take, getD-drop, length-take-le, length-slice}
 use lib.Dec.{leb}
 use borrow.Author.Tests.{le-leb, lt-leb}
-use Rattle.outcome.specs.Outcome.{Res, ok, refuse, andThen, consRes, listed, IsOk, mapRes}
+use Rattle.outcome.specs.Outcome.{Res, ok, refuse, andThen, consRes, mapRes}
 use Rattle.outcome.proofs.Laws.{le-or-lt, part-slice}
 use Rattle.grammar.specs.Bytes.{nibble, nibbles}
 use Rattle.grammar.specs.Rows.{Code, code, paints, afterCodes, align}
 use Rattle.grammar.specs.Pixels.{rowPixels}
 use Rattle.rle.specs.Codes.{made, codeFrom, codeAt, rowAt, fieldAt}
 use Rattle.rle.specs.Field.{paintField}
-use Rattle.rle.specs.Answers.{rowCounts, fieldCounts, fieldAnswer}
+use Rattle.rle.specs.Answers.{rowCounts, fieldCounts}
 use Rattle.rle.specs.declared.FieldAnswer.the-variants as field-answer
 use Rattle.rle.proofs.Laws.{code-sound, paints-pos, row-step, row-none}
 
@@ -192,30 +192,3 @@ module _ (u : List ℕ) (a e : ℕ) (b : e ≤ length u) where
   -- a field in its unit is the slice's, moved
   pub part-field : (w n : ℕ) → fieldAt u e w n (2 * a) ≡ mapRes (movedRows (2 * a)) (fieldAt (slice a e u) (length (slice a e u)) w n 0)
   part-field w n = let z : 2 * a ≡ 2 * a + 0 = omega arith in ap (fieldAt u e w n) z ∙ part-rows w n 0
-
-  -- so both count, paint and refuse alike
-  pub part-answer : (w n : ℕ) → fieldAnswer w (fieldAt u e w n (2 * a)) ≡ fieldAnswer w (fieldAt (slice a e u) (length (slice a e u)) w n 0)
-  part-answer w n = ap (fieldAnswer w) (part-field w n) ∙ go (fieldAt (slice a e u) (length (slice a e u)) w n 0)
-    where
-      go : (o : Res (List (List Code))) → fieldAnswer w (mapRes (movedRows (2 * a)) o) ≡ fieldAnswer w o
-      go (refuse k) = refl
-      go (ok rs) = ap field-answer.Rows (moved-field-counts (2 * a) w rs)
-
-  pub part-paint : (w n o : ℕ) (px : List ℕ)
-      → paintField w o (listed (fieldAt u e w n (2 * a))) px ≡ paintField w o (listed (fieldAt (slice a e u) (length (slice a e u)) w n 0)) px
-  part-paint w n o px =
-      ap (λ (r : Res (List (List Code))). paintField w o (listed r) px) (part-field w n) ∙ go (fieldAt (slice a e u) (length (slice a e u)) w n 0)
-    where
-      go : (r : Res (List (List Code))) → paintField w o (listed (mapRes (movedRows (2 * a)) r)) px ≡ paintField w o (listed r) px
-      go (refuse k) = refl
-      go (ok rs) = moved-paint (2 * a) w o rs px
-
-  pub part-there : (w n : ℕ) → IsOk (fieldAt (slice a e u) (length (slice a e u)) w n 0) → IsOk (fieldAt u e w n (2 * a))
-  part-there w n i = rw (part-field w n) (go (fieldAt (slice a e u) (length (slice a e u)) w n 0) i)
-    where
-      go : (r : Res (List (List Code))) → IsOk r → IsOk (mapRes (movedRows (2 * a)) r)
-      go (refuse k) f = f
-      go (ok rs) f = tt
-
-  pub part-refused : (w n k : ℕ) → fieldAt (slice a e u) (length (slice a e u)) w n 0 ≡ refuse k → fieldAt u e w n (2 * a) ≡ refuse k
-  part-refused w n k q = part-field w n ∙ ap (mapRes (movedRows (2 * a))) q

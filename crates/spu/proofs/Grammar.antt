@@ -7,11 +7,11 @@ use mathlib.Core.Logic.{_⊎_, inl, inr, ⊎-elim, _↔_}
 use mathlib.Core.List.{List, [], _∷_}
 use lib.ListN.{length, replicate, length-replicate}
 use lib.Dec.{leb, ltb}
-use borrow.Author.Tests.{leb-true, le-leb, ltb-true, ltb-false, lt-ltb, le-ltb}
-use Rattle.outcome.specs.Outcome.{Res, ok, refuse, check, andThen, mapRes, no-area, no-top-field}
+use borrow.Author.Tests.{leb-true, le-leb, lt-ltb, le-ltb}
+use Rattle.outcome.specs.Outcome.{ok, check, mapRes, no-area, no-top-field}
 use Rattle.outcome.proofs.Laws.{ok-injective, and-true, check-ok, andThen-ok, mapRes-ok, le-or-lt}
 use Rattle.grammar.specs.Rows.{Code, RowCodes, FieldRows}
-use Rattle.grammar.specs.Control.{Block, lengthWord, controlWord, IsChain}
+use Rattle.grammar.specs.Control.{Block, lengthWord, controlWord}
 use Rattle.grammar.specs.Record.{Offsets, Told, told, width, height}
 use Rattle.grammar.specs.Picture.{evens, odds, topEnd, Stay0, Bottom, IsPicture, Listed-unit, IsUnit}
 use Rattle.control.specs.Chain.{hasArea, chainAt, controlAt}

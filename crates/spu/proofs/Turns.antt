@@ -3,15 +3,14 @@ use Prim.Native.Nat.{ℕ, _+_, _-_, _*_, _≤_, _<_, min}
 use native.Mathlib.Nat.{mul-le-mul-right}
 use native.Mathlib.Omega.{arith}
 use mathlib.Core.Path.{_≡_, refl, sym, ap, _∙_, subst}
-use mathlib.Core.Bool.{Bool, true, false, cond, _&&_}
-use mathlib.Core.Logic.{_⊎_, inl, inr, ⊎-elim}
-use mathlib.Core.List.{List, []}
+use mathlib.Core.Bool.{Bool, true, cond, _&&_}
+use mathlib.Core.List.{List}
 use lib.ListN.{length}
 use lib.Dec.{leb, ltb}
 use lib.Seq.{sets}
 use borrow.Author.Tests.{leb-true, le-leb, lt-leb, lt-ltb, le-ltb}
-use Rattle.outcome.specs.Outcome.{Res, ok, refuse, IsOk, listed, check, andThen, mapRes, short-pixels, short-words, no-top-field}
-use Rattle.outcome.proofs.Laws.{ok-injective, and-true, le-or-lt}
+use Rattle.outcome.specs.Outcome.{Res, ok, refuse, IsOk, listed, mapRes, short-pixels, short-words, no-top-field}
+use Rattle.outcome.proofs.Laws.{ok-injective, and-true}
 use Rattle.grammar.specs.Rows.{Code}
 use Rattle.grammar.specs.Bands.{bandWords}
 use Rattle.grammar.specs.Pixels.{indexMap, codesIn}
@@ -31,7 +30,7 @@ use Rattle.rle.specs.declared.FieldAnswer.{FieldAnswer}
 use Rattle.rle.specs.declared.FieldAnswer.the-variants as field-answer
 use Rattle.rle.proofs.Claim.{counts-codes}
 use Rattle.spu.specs.Unit.{hasBottom, offsetsOf, rowsAt, listedUnit, unitAt, unitIn}
-use Rattle.spu.specs.Answers.{layoutOf, spuAnswer, unitMap, unitBands, RowsDecoded, Decoded}
+use Rattle.spu.specs.Answers.{layoutOf, spuAnswer, RowsDecoded, Decoded}
 use Rattle.spu.specs.declared.Layout.{Layout}
 use Rattle.spu.specs.declared.SpuAnswer.the-variants as spu-answer
 

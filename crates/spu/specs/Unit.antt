@@ -1,12 +1,11 @@
 -- The rows of a unit's picture, found, and so a whole unit: what is asked first refuses first (FORMAT 3.5, 3.8).
 -- Assumes nothing: these are definitions.
 use Prim.Native.Nat.{ℕ, _*_}
-use mathlib.Core.Path.{_≡_}
 use mathlib.Core.Bool.{Bool, _&&_}
-use mathlib.Core.List.{List, []}
+use mathlib.Core.List.{List}
 use lib.Dec.{leb, ltb}
 use lib.ListN.{length}
-use Rattle.outcome.specs.Outcome.{Res, ok, refuse, check, andThen, mapRes, short-pixels, short-words, no-top-field}
+use Rattle.outcome.specs.Outcome.{Res, check, andThen, mapRes, short-pixels, short-words, no-top-field}
 use Rattle.grammar.specs.Rows.{Code}
 use Rattle.grammar.specs.Bands.{bandWords}
 use Rattle.grammar.specs.Control.{Block, lengthWord, controlWord}

@@ -7,7 +7,7 @@ use outcome::SHORT_WORDS;
 use rle::FieldAnswer;
 use rle::Span;
 ghost use mathlib.Core.Path.{_≡_};
-ghost use Prim.Native.Nat.{ℕ, _≤_, _<_, _-_, _+_, _*_};
+ghost use Prim.Native.Nat.{_≤_, _<_, _-_, _+_, _*_};
 ghost use mathlib.Core.List.{List};
 ghost use lib.ListN.{length};
 ghost use Rattle.grammar.specs.Control.{Block};

@@ -1,6 +1,5 @@
 -- `control::with_area_at` meets its contract: four numbers of three nibbles. Assumes nothing.
 use borrow.Author.Needs.{needs}
-use Prim.Native.Nat.{ℕ}
 use mathlib.Core.Path.{_∙_}
 use Rattle.control.proofs.Told.{area-read}
 use Rattle.control.proofs.with_area_at.Statement.{statement}

@@ -1,10 +1,8 @@
 -- `control::with_order` meets its contract: by the command's byte. Assumes nothing.
 use borrow.Author.Needs.{needs}
 use native.Mathlib.Omega.{arith}
-use mathlib.Core.Path.{_∙_, ap, ap₂}
-use Rattle.grammar.specs.Control.{selectors, alphas, offsets}
+use Rattle.grammar.specs.Control.{selectors, alphas}
 use Rattle.control.proofs.Told.{told-as, size-as, given-one, given-two}
-use Prim.Native.Nat.{_+_, _≤_}
 use Rattle.control.specs.Chain.{plainAt}
 use Rattle.control.proofs.with_order.Statement.{statement}
 use Rattle.control.proofs.with_order.Tie as tie

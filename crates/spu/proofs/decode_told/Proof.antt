@@ -2,15 +2,12 @@
 use borrow.Author.Needs.{needs}
 use native.Mathlib.Omega.{arith}
 use Prim.Native.Nat.{_*_, _≤_, _<_}
-use mathlib.Core.Path.{_≡_, sym, ap, _∙_, subst}
+use mathlib.Core.Path.{ap, subst}
 use lib.ListN.{length}
-use Rattle.grammar.specs.Bands.{bandWords}
 use Rattle.grammar.specs.Record.{told, width, height}
 use Rattle.control.specs.declared.Spu.{Spu}
-use Rattle.outcome.specs.Outcome.{Res, IsOk}
 use Rattle.spu.specs.declared.Layout.{Layout}
 use Rattle.spu.proofs.Turns.{area-small, short-map, short-bands, decoded-shows, decoded-stops, needs-words, words-fit, is-ok}
-use Rattle.spu.specs.Answers.{RowsDecoded}
 use Rattle.spu.proofs.decode_told.Statement.{statement}
 use Rattle.spu.proofs.decode_told.Tie as tie
 
