@@ -14,6 +14,8 @@ use Rattle.rle.specs.Field.{rowsFrom, paintField, decoded}
 use Rattle.rle.specs.Answers.{rowCounts, fieldCounts}
 use Rattle.rle.specs.Fields.{weave, lowerAt, fieldsAt}
 use Rattle.control.specs.Chain.{plainAt, changeAt, orderAt, commandAt, commandsAt, blockAt, blocksAt, headFits, chainAt, controlAt}
+use Rattle.grammar.specs.Bands.{entryWords, bandWords}
+use Rattle.control.specs.Answers.{spuOf}
 use Rattle.spu.specs.Unit.{rowsAt, unitAt}
 use Rattle.cards.specs.Table.{Card, code, field, fields, unit, table}
 
@@ -24,7 +26,7 @@ abbrev pub want : List (List ℕ)
 want = map (λ (c : Card). c .want) table
 
 pub tabled : got ≡ want
-unfolding table code field fields unit listFuel listFrom word nibble nibbles paints afterCodes align rowPixels codesIn indexMap untold tellBlock tellChain topEnd codeFrom codeAt rowAt fieldAt rowsFrom paintField decoded rowCounts fieldCounts weave lowerAt fieldsAt plainAt changeAt orderAt commandAt commandsAt blockAt blocksAt headFits chainAt controlAt rowsAt unitAt
+unfolding table code field fields unit listFuel listFrom word nibble nibbles paints afterCodes align rowPixels codesIn indexMap untold tellBlock tellChain topEnd codeFrom codeAt rowAt fieldAt rowsFrom paintField decoded rowCounts fieldCounts weave lowerAt fieldsAt plainAt changeAt orderAt commandAt commandsAt blockAt blocksAt headFits chainAt controlAt spuOf entryWords bandWords rowsAt unitAt
 tabled = refl
 
 pub each : (k : ℕ) → getD got k [] ≡ getD want k []

@@ -1,15 +1,20 @@
 -- The table of cards: bytes, what the definitions make of them, and what that should be. Each layer has its part.
 -- Assumes nothing: these are definitions.
 use Prim.Native.Nat.{ℕ, _*_}
+use mathlib.Core.Bool.{cond}
 use mathlib.Core.List.{List, [], _∷_, _++_}
 use lib.ListN.{length, replicate}
 use Rattle.outcome.specs.Outcome.{Res, ok, refuse, listed}
 use Rattle.grammar.specs.Rows.{colour, paints}
 use Rattle.grammar.specs.Pixels.{codesIn, indexMap}
+use Rattle.grammar.specs.Control.{forced-start, stop, selectors, alphas, area, offsets, colours, Block}
 use Rattle.grammar.specs.Record.{told, delayOf, width, height}
 use Rattle.rle.specs.Codes.{codeAt}
 use Rattle.rle.specs.Field.{decoded, paintField}
 use Rattle.rle.specs.Answers.{fieldCounts}
+use Rattle.control.specs.Chain.{command}
+use Rattle.control.specs.Answers.{spuOf}
+use Rattle.control.specs.declared.Spu.{Spu}
 use Rattle.spu.specs.Unit.{unitAt}
 
 pub record Card : Type 0 where
@@ -46,6 +51,24 @@ unit u =
     width t ∷ height t ∷ t .selected ∷ t .alpha ∷ delayOf (t .starts) ∷ delayOf (t .stops) ∷ codesIn (l .rows) ∷ indexMap (width t) (l .rows))
     (unitAt u)
 
+-- a block that gives everything but a stop, and one that stops
+abbrev blocks : List Block
+blocks =
+    record {
+      place = 0;
+      delay = 7;
+      next = 1;
+      commands = command 4 forced-start ∷ command 5 (selectors 11) ∷ command 8 (alphas 12) ∷ command 11 (area 1 3 2 4) ∷ command 18 (offsets 5 6) ∷ command 23 (colours 6 (record { place = 26; first = 0; last = 0; count = 0; entries = [] } ∷ [])) ∷ [];
+    }
+    ∷ record { place = 1; delay = 9; next = 0; commands = command 5 stop ∷ [] }
+    ∷ []
+
+-- a record, field by field in its order
+abbrev pub fieldsOf : Spu → List ℕ
+fieldsOf s =
+    s .x1 ∷ s .y1 ∷ s .x2 ∷ s .y2 ∷ s .«palette_sel» ∷ s .alpha ∷ cond (s .started) 1 0 ∷ s .«start_delay_raw» ∷ cond (s .stopped) 1 0 ∷ s .«stop_delay_raw»
+    ∷ cond (s .«forced_display») 1 0 ∷ s .«top_rle_off» ∷ s .«bot_rle_off» ∷ cond (s .«saw_chg_colcon») 1 0 ∷ s .«band_words» ∷ s .codes ∷ []
+
 unfoldable pub table : List Card
 table =
     -- each length of code at its least and its greatest run, and a fill (FORMAT 5.2 to 5.4)
@@ -76,4 +99,7 @@ table =
     (0x00 ∷ 0x21 ∷ 0x00 ∷ 0x09 ∷ 0x00 ∷ 0x01 ∷ 0x60 ∷ 0x00 ∷ 0x30 ∷ 0x00 ∷ 0x00 ∷ 0x00 ∷ 0x09 ∷ 0x03 ∷ 0x01 ∷ 0x32 ∷ 0x04 ∷ 0x0F ∷ 0xFF ∷ 0x05 ∷ 0x00 ∷ 0x00 ∷ 0x01 ∷ 0x00 ∷ 0x00
     ∷ 0x01 ∷ 0x06 ∷ 0x00 ∷ 0x04 ∷ 0x00 ∷ 0x06 ∷ 0x01 ∷ 0xFF ∷ []))
     (0 ∷ 2 ∷ 2 ∷ 0x0132 ∷ 0x0FFF ∷ 0 ∷ 0 ∷ 3 ∷ 1 ∷ 1 ∷ 2 ∷ 3 ∷ [])
+    -- each value of what was told in its field of the record
+    ∷ card (fieldsOf (spuOf (told blocks) 13)) (1 ∷ 2 ∷ 3 ∷ 4 ∷ 11 ∷ 12 ∷ 1 ∷ 7 ∷ 1 ∷ 9 ∷ 1 ∷ 5 ∷ 6 ∷ 1 ∷ 3 ∷ 13 ∷ [])
+    ∷ card (fieldsOf (spuOf (told []) 0)) (replicate 16 0)
     ∷ []

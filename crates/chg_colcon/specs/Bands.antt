@@ -1,5 +1,5 @@
 -- The words of a list of bands, from the bytes after a colour change's size word; or refusal 19 where they are no such list.
--- A header hands on to its entries, and the last entry back to the next header. Assumes nothing: these are definitions.
+-- Header and entries are defined by each other, as they follow each other. Assumes nothing: these are definitions.
 use Prim.Native.Nat.{ℕ, _+_, _-_, _*_, _/_, _%_}
 use mathlib.Core.Bool.{cond}
 use mathlib.Core.List.{List, [], _∷_}

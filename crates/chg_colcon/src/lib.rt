@@ -302,7 +302,7 @@ fn look_band(words: &[u16], from: usize, n: usize, x: u16, y: u16, before: LookA
     before
 }
 
-// What stored bands give at column x of line y: of the last band that spans the line and has an entry at the column or left of it, the
+// What stored bands give at column x of line y: of the bands on the line that have an entry at the column or left of it, the last, and of that the
 // rightmost such entry. Any words are read; entries that are cut short say nothing.
 // Ruled out: the first band that spans the line; an entry that starts right of the column.
 pub fn chg_colcon_lookup(words: &[u16], x: u16, y: u16) -> LookAnswer

@@ -15,7 +15,7 @@ use Rattle.outcome.proofs.Laws.{ok-not-refuse, ok-injective, mapRes-ok, check-o
 use Rattle.outcome.proofs.Lists.{list-iff, list-step}
 use Rattle.grammar.specs.Bytes.{byte, word}
 use Rattle.grammar.specs.Bands.{Band}
-use Rattle.grammar.specs.Control.{Order, forced-start, start, stop, selectors, alphas, area, offsets, colours, codeOf, sizeOf, Says, Command, commandEnd, IsCommand, CommandsEnd, Commands, Block, IsBlock, Chain, lengthWord, controlWord, IsChain}
+use Rattle.grammar.specs.Control.{Order, forced-start, start, stop, selectors, alphas, area, offsets, colours, codeOf, sizeOf, Written, Command, commandEnd, IsCommand, CommandsEnd, Commands, Block, IsBlock, Chain, lengthWord, controlWord, IsChain}
 use Rattle.control.specs.Listed.{bandsAt}
 use Rattle.control.specs.Chain.{plainAt, changeAt, orderAt, command, commandAt, commandsStop, nextCommand, commandsAt, block, blockAt, chainStop, chainBlock, chainNext, chainLeft, blocksAt, headFits, chainAt}
 use Rattle.control.proofs.Listed.{bands-found, bands-listed}
@@ -26,10 +26,10 @@ use Rattle.control.proofs.Listed.{bands-found, bands-listed}
 pub record Ordered (u : List ℕ) (L p k : ℕ) (o : Order) : Type 0 where
   pub within : p + sizeOf o ≤ L
   pub coded : k ≡ codeOf o
-  pub says : Says u p o
+  pub says : Written u p o
 
 -- the order of a byte below 7 says what stands there
-plain-says : (u : List ℕ) (p k : ℕ) → k < 7 → (k ≡ codeOf (plainAt u p k)) × Says u p (plainAt u p k)
+plain-says : (u : List ℕ) (p k : ℕ) → k < 7 → (k ≡ codeOf (plainAt u p k)) × Written u p (plainAt u p k)
 unfolding plainAt
 plain-says u p zero h = (refl, tt)
 plain-says u p (suc zero) h = (refl, tt)
@@ -84,7 +84,7 @@ module _ (u : List ℕ) (L : ℕ) (inside : L ≤ length u) where
   unfolding orderAt
   plain-complete p o h e w = rw (lt-ltb (codeOf o) 7 h, e, le-leb _ _ w)
 
-  order-complete : (p : ℕ) (o : Order) → p + sizeOf o ≤ L → Says u p o → orderAt u L p (codeOf o) ≡ ok o
+  order-complete : (p : ℕ) (o : Order) → p + sizeOf o ≤ L → Written u p o → orderAt u L p (codeOf o) ≡ ok o
   unfolding plainAt orderAt
   order-complete p forced-start w h = plain-complete p forced-start (omega arith) refl w
   order-complete p start w h = plain-complete p start (omega arith) refl w

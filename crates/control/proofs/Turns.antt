@@ -14,7 +14,7 @@ use Rattle.outcome.specs.Outcome.{Res, ok, refuse, check, andThen, consRes, map
 use Rattle.outcome.proofs.Laws.{ok-injective, le-or-lt}
 use Rattle.grammar.specs.Bytes.{byte, word}
 use Rattle.grammar.specs.Bands.{Band, bandWords}
-use Rattle.grammar.specs.Control.{Order, forced-start, start, stop, selectors, alphas, area, offsets, colours, sizeOf, Says, Command, commandEnd, Commands, Block, lengthWord, controlWord}
+use Rattle.grammar.specs.Control.{Order, forced-start, start, stop, selectors, alphas, area, offsets, colours, sizeOf, Written, Command, commandEnd, Commands, Block, lengthWord, controlWord}
 use Rattle.grammar.specs.Record.{Told, untold, tell, tellBlock, tellChain, told}
 use Rattle.chg_colcon.specs.Bands.{bandsOf}
 use Rattle.chg_colcon.specs.Answers.{countOf}
@@ -132,7 +132,7 @@ ungot u L p k d t n e = go (orderAt u L p k) refl e
     go (refuse m) q f = let y : n ≡ m = cc in q ∙ ap refuse (sym y)
 
 -- an order adds fewer words than it has bytes
-order-grows : (u : List ℕ) (p d : ℕ) (t : Told) (o : Order) → Says u p o → length (bandWords (tell d o t .bands)) ≤ length (bandWords (t .bands)) + sizeOf o
+order-grows : (u : List ℕ) (p d : ℕ) (t : Told) (o : Order) → Written u p o → length (bandWords (tell d o t .bands)) ≤ length (bandWords (t .bands)) + sizeOf o
 order-grows u p d t forced-start h = omega arith
 order-grows u p d t start h = omega arith
 order-grows u p d t stop h = omega arith

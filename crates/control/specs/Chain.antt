@@ -1,4 +1,4 @@
--- The blocks of a unit and their commands, found: the first fault in the chain's order refuses (FORMAT 3.1 to 3.5).
+-- The blocks of a unit and their commands, found: the first fault in the chain's order refuses (FORMAT 3.1 to 3.5, 3.7).
 -- Assumes nothing: these are definitions.
 use Prim.Native.Nat.{ℕ, suc, _+_, _-_, _*_}
 use mathlib.Core.Bool.{Bool, true, cond, _&&_, _||_}
@@ -20,7 +20,7 @@ areaAt u p = area (nibbles u (2 * p) 3) (nibbles u (2 * p + 3) 3) (nibbles u (2 
 abbrev pub offsetsAt : List ℕ → ℕ → Order
 offsetsAt u p = offsets (word u p) (word u (p + 2))
 
--- the order of a byte below 7, its parameters from p on (FORMAT 3.4)
+-- the order of a byte below 7, its parameters from p on (FORMAT 3.4); the last `stop` is for no such byte
 unfoldable pub plainAt : List ℕ → ℕ → ℕ → Order
 plainAt u p k =
     getD (forced-start ∷ start ∷ stop ∷ selectors (word u p) ∷ alphas (word u p) ∷ areaAt u p ∷ offsetsAt u p ∷ []) k stop
@@ -62,11 +62,12 @@ block u p cs = record { place = p; delay = word u p; next = word u (p + 2); comm
 unfoldable pub blockAt : List ℕ → ℕ → ℕ → Res Block
 blockAt u L p = mapRes (block u p) (commandsAt u L (p + 4))
 
--- a chain that goes on at a place, or has ended: there it stops, and at a place where a block's first four bytes do not fit (FORMAT 3.2)
+-- `some p`: the chain goes on at p, and stops there where a block's first four bytes do not fit; `none`: it has ended (FORMAT 3.2)
 abbrev pub chainStop : ℕ → Option ℕ → Bool
 chainStop L none = true
 chainStop L (some p) = ltb L (p + 4)
 
+-- nothing is read where it has ended
 abbrev pub chainBlock : List ℕ → ℕ → Option ℕ → Res Block
 chainBlock u L none = refuse 0
 chainBlock u L (some p) = blockAt u L p
@@ -85,7 +86,7 @@ blocksAt u L s = listFrom (chainStop L) (chainBlock u L) chainNext (chainLeft L)
 unfoldable pub headFits : List ℕ → Bool
 headFits u = leb 4 (controlWord u) && leb (controlWord u) (lengthWord u) && leb (lengthWord u) (length u)
 
--- the blocks of a unit (FORMAT 3.5)
+-- the blocks of a unit (FORMAT 3.1, 3.2)
 unfoldable pub chainAt : List ℕ → Res (List Block)
 chainAt u = check (leb 4 (length u)) no-head (check (headFits u) bad-head (blocksAt u (lengthWord u) (some (controlWord u))))
 
@@ -93,6 +94,6 @@ chainAt u = check (leb 4 (length u)) no-head (check (headFits u) bad-head (block
 abbrev pub hasArea : Told → Bool
 hasArea t = leb (t .at .x1) (t .at .x2) && leb (t .at .y1) (t .at .y2)
 
--- and their picture has a size
+-- those of a unit whose picture has a size (FORMAT 3.7)
 unfoldable pub controlAt : List ℕ → Res (List Block)
 controlAt u = andThen (chainAt u) (λ bs. check (hasArea (told bs)) no-area (ok bs))

@@ -1,4 +1,4 @@
--- The words of a unit's bands, command by command and block by block, as they are stored. Assumes nothing: these are definitions.
+-- The words of a unit's bands, command by command and block by block, as they are stored (FORMAT 3.6, 4.5). Assumes nothing: these are definitions.
 use Prim.Native.Nat.{ℕ, _+_}
 use mathlib.Core.Path.{_≡_}
 use mathlib.Core.List.{List, [], _∷_, _++_}

@@ -31,6 +31,6 @@ held (suc k) p (c ∷ s ∷ a ∷ ws) = withEntry p c s a (held k (p + 6) ws)
 abbrev pub heldBands : ℕ → List ℕ → List Band
 heldBands p ws = held zero p ws .bands
 
--- the bands in the bytes of u from p up to e
+-- the bands in the bytes of u from p up to e (FORMAT 4.2)
 unfoldable pub bandsAt : List ℕ → ℕ → ℕ → Res (List Band)
 bandsAt u e p = mapRes (heldBands p) (bandsOf (slice p e u))

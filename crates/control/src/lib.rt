@@ -409,6 +409,7 @@ fn fill_change(unit: &[u8], end: usize, p: usize, words: &mut [u16], to: usize) 
             at: next,
             to: to + n,
         },
+        // not met: the bands were read before
         BandAnswer::Refused(_) => Place { at: next, to },
     }
 }

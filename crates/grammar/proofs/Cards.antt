@@ -1,6 +1,6 @@
 -- Cards for what listed parts give. The readers share some of it with the grammar, and the claim so does not guard it: a code's run and
--- colour, the fill, the clip, alignment, pixels, the number of codes. The rest: words, what bands are stored as, what they give at a
--- place, what blocks tell, and where the top field ends. One test over the table. Assumes nothing.
+-- colour, the fill, the clip, alignment, pixels, the number of codes, words, the sizes of commands, what blocks tell, where the top field
+-- ends. The rest: what bands are stored as, and what they give at a place. One test over the table. Assumes nothing.
 use Prim.Native.Nat.{ℕ}
 use mathlib.Core.Path.{_≡_, refl}
 use mathlib.Core.List.{List, [], _∷_, map}
@@ -48,13 +48,18 @@ abbrev given : Option Look → List ℕ
 given none = []
 given (some l) = l .selectors ∷ l .alphas ∷ []
 
--- two blocks of delays 7 and 9: selectors, a forced start and a stop; a start, a stop, alphas, an area, offsets and a colour change
+-- two blocks of delays 7 and 9: the first gives everything, the second all but selectors again
 abbrev command : ℕ → Order → Command
 command p o = record { place = p; order = o }
 
 abbrev blocks : List Block
 blocks =
-    record { place = 9; delay = 7; next = 20; commands = command 13 (selectors 0x0132) ∷ command 16 forced-start ∷ command 17 stop ∷ [] }
+    record {
+      place = 9;
+      delay = 7;
+      next = 20;
+      commands = command 13 (selectors 0x0132) ∷ command 16 forced-start ∷ command 17 stop ∷ command 18 (alphas 1) ∷ command 21 (area 1 1 1 1) ∷ command 28 (offsets 1 1) ∷ command 33 (colours 6 (drop 2 bands)) ∷ [];
+    }
     ∷ record {
       place = 20;
       delay = 9;
@@ -71,7 +76,7 @@ head (b ∷ bs) = b .commands
 abbrev listing : Told → List ℕ
 listing t =
     t .at .x1 ∷ t .at .x2 ∷ t .at .y1 ∷ t .at .y2 ∷ width t ∷ height t ∷ t .selected ∷ t .alpha ∷ delayOf (t .starts) ∷ delayOf (t .stops)
-    ∷ cond (t .forced) 1 0 ∷ t .fields .top ∷ t .fields .bottom ∷ cond (t .changed) 1 0 ∷ length (bandWords (t .bands)) ∷ []
+    ∷ cond (t .forced) 1 0 ∷ t .fields .top ∷ t .fields .bottom ∷ cond (t .changed) 1 0 ∷ bandWords (t .bands)
 
 cards : List Card
 cards =
@@ -107,13 +112,14 @@ cards =
     -- on a line of two bands, where the later one starts right of the column
     ∷ card (given (lookAt 6 6 bands)) (1 ∷ 2 ∷ [])
     -- nothing told; two blocks: the first start, the last stop, selectors of the first block
-    ∷ card (listing (told [])) (0 ∷ 0 ∷ 0 ∷ 0 ∷ 1 ∷ 1 ∷ 0 ∷ 0 ∷ 0 ∷ 0 ∷ 0 ∷ 0 ∷ 0 ∷ 0 ∷ 0 ∷ [])
-    ∷ card (listing (told blocks)) (3 ∷ 8 ∷ 5 ∷ 6 ∷ 6 ∷ 2 ∷ 0x0132 ∷ 0x0FFF ∷ 7 ∷ 9 ∷ 1 ∷ 4 ∷ 6 ∷ 1 ∷ 18 ∷ [])
+    ∷ card (listing (told [])) (0 ∷ 0 ∷ 0 ∷ 0 ∷ 1 ∷ 1 ∷ 0 ∷ 0 ∷ 0 ∷ 0 ∷ 0 ∷ 0 ∷ 0 ∷ 0 ∷ [])
+    ∷ card (listing (told blocks)) (3 ∷ 8 ∷ 5 ∷ 6 ∷ 6 ∷ 2 ∷ 0x0132 ∷ 0x0FFF ∷ 7 ∷ 9 ∷ 1 ∷ 4 ∷ 6 ∷ 1 ∷ 6 ∷ 9 ∷ 1 ∷ 7 ∷ 5 ∷ 6 ∷ bandWords bands)
     -- a later start alone, of the other kind
-    ∷ card (listing (told (drop 1 blocks))) (3 ∷ 8 ∷ 5 ∷ 6 ∷ 6 ∷ 2 ∷ 0 ∷ 0x0FFF ∷ 9 ∷ 9 ∷ 0 ∷ 4 ∷ 6 ∷ 1 ∷ 18 ∷ [])
-    ∷ card (map (λ (c : Command). commandEnd c) (head blocks)) (16 ∷ 17 ∷ 18 ∷ [])
-    -- the bottom field follows, stands before the top field, starts past the control blocks
-    ∷ card (topEnd 30 (record { top = 4; bottom = 9 }) ∷ topEnd 30 (record { top = 9; bottom = 4 }) ∷ topEnd 30 (record { top = 4; bottom = 33 }) ∷ []) (9 ∷ 30 ∷ 30 ∷ [])
+    ∷ card (listing (told (drop 1 blocks))) (3 ∷ 8 ∷ 5 ∷ 6 ∷ 6 ∷ 2 ∷ 0 ∷ 0x0FFF ∷ 9 ∷ 9 ∷ 0 ∷ 4 ∷ 6 ∷ 1 ∷ bandWords bands)
+    ∷ card (map (λ (c : Command). commandEnd c) (head blocks)) (16 ∷ 17 ∷ 18 ∷ 21 ∷ 28 ∷ 33 ∷ 40 ∷ [])
+    ∷ card (map (λ (c : Command). commandEnd c) (head (drop 1 blocks))) (25 ∷ 26 ∷ 29 ∷ 36 ∷ 41 ∷ 74 ∷ [])
+    -- the bottom field follows, stands before the top field, starts past the control blocks, starts with the top field
+    ∷ card (topEnd 30 (record { top = 4; bottom = 9 }) ∷ topEnd 30 (record { top = 9; bottom = 4 }) ∷ topEnd 30 (record { top = 4; bottom = 33 }) ∷ topEnd 30 (record { top = 9; bottom = 9 }) ∷ []) (9 ∷ 30 ∷ 30 ∷ 30 ∷ [])
     ∷ card (evens (1 ∷ 2 ∷ 3 ∷ 4 ∷ 5 ∷ [])) (1 ∷ 3 ∷ 5 ∷ [])
     ∷ card (odds (1 ∷ 2 ∷ 3 ∷ 4 ∷ 5 ∷ [])) (2 ∷ 4 ∷ [])
     ∷ card (indexMap 6 (row ∷ [] ∷ row ∷ [])) (3 ∷ 2 ∷ 2 ∷ 2 ∷ 2 ∷ 1 ∷ 0 ∷ 0 ∷ 0 ∷ 0 ∷ 0 ∷ 0 ∷ 3 ∷ 2 ∷ 2 ∷ 2 ∷ 2 ∷ 1 ∷ [])

@@ -42,16 +42,16 @@ sizeOf (offsets t b) = 4
 sizeOf (colours s bs) = s
 
 -- the bytes of u from p on say it; a colour change's size counts the size word itself (FORMAT 3.4, 4.1)
-abbrev pub Says : List ℕ → ℕ → Order → Type 0
-Says u p forced-start = Unit {0}
-Says u p start = Unit {0}
-Says u p stop = Unit {0}
-Says u p (selectors w) = w ≡ word u p
-Says u p (alphas w) = w ≡ word u p
-Says u p (area x1 x2 y1 y2) =
+abbrev pub Written : List ℕ → ℕ → Order → Type 0
+Written u p forced-start = Unit {0}
+Written u p start = Unit {0}
+Written u p stop = Unit {0}
+Written u p (selectors w) = w ≡ word u p
+Written u p (alphas w) = w ≡ word u p
+Written u p (area x1 x2 y1 y2) =
     (x1 ≡ nibbles u (2 * p) 3) × (x2 ≡ nibbles u (2 * p + 3) 3) × (y1 ≡ nibbles u (2 * p + 6) 3) × (y2 ≡ nibbles u (2 * p + 9) 3)
-Says u p (offsets t b) = (t ≡ word u p) × (b ≡ word u (p + 2))
-Says u p (colours s bs) = (2 ≤ s) × (s ≡ word u p) × Bands u (p + s) (p + 2) bs
+Written u p (offsets t b) = (t ≡ word u p) × (b ≡ word u (p + 2))
+Written u p (colours s bs) = (2 ≤ s) × (s ≡ word u p) × Bands u (p + s) (p + 2) bs
 
 pub record Command : Type 0 where
   pub place : ℕ
@@ -65,7 +65,7 @@ commandEnd c = c .place + 1 + sizeOf (c .order)
 pub record IsCommand (u : List ℕ) (L : ℕ) (c : Command) : Type 0 where
   pub within : commandEnd c ≤ L
   pub coded : byte u (c .place) ≡ codeOf (c .order)
-  pub says : Says u (c .place + 1) (c .order)
+  pub says : Written u (c .place + 1) (c .order)
 
 -- the commands end at L, or at a byte `FF` before it (FORMAT 3.3)
 abbrev pub CommandsEnd : List ℕ → ℕ → ℕ → Type 0

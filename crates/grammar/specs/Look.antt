@@ -23,7 +23,7 @@ rightmost x o (e ∷ es) = rightmost x (cond (leb (e .column) x) (some (lookOf e
 abbrev pub spans : ℕ → Band → Bool
 spans y b = leb (b .first) y && leb y (b .last)
 
--- the last band that spans the line and has such an entry; `o` where there is none
+-- of the bands on the line that have such an entry, the last; `o` where none has
 unfoldable pub lastLook : ℕ → ℕ → Option Look → List Band → Option Look
 lastLook x y o [] = o
 lastLook x y o (b ∷ bs) = lastLook x y (cond (spans y b) (rightmost x o (b .entries)) o) bs

@@ -22,7 +22,7 @@ abbrev pub odds : {A : Type 0} → List A → List A
 odds rs = evens (drop 1 rs)
 
 -- the byte before which the top field ends, in a unit whose control blocks start at C: where the bottom field starts, if that is later
--- than the top field, and not past C (FORMAT 3.8)
+-- than the top field, and otherwise C; never past C (FORMAT 3.8)
 unfoldable pub topEnd : ℕ → Offsets → ℕ
 topEnd C f = min C (cond (ltb (f .top) (f .bottom)) (f .bottom) C)
 
@@ -36,7 +36,7 @@ abbrev pub Bottom : List ℕ → ℕ → ℕ → ℕ → List (List Code) → Ty
 Bottom u C offset w rs =
     ((0 < offset) × (offset < C) × FieldRows u C w (2 * offset) rs) ⊎ (((offset ≡ 0) ⊎ (C ≤ offset)) × Stay0 rs)
 
--- rs are the rows of the picture that the unit u tells t of
+-- rs are the rows of a unit u whose commands told t
 pub record IsPicture (u : List ℕ) (t : Told) (rs : List (List Code)) : Type 0 where
   pub wide : t .at .x1 ≤ t .at .x2
   pub high : t .at .y1 ≤ t .at .y2
@@ -45,10 +45,10 @@ pub record IsPicture (u : List ℕ) (t : Told) (rs : List (List Code)) : Type 0 
   pub bottom : Bottom u (controlWord u) (t .fields .bottom) (width t) (odds rs)
 
 -- what a reading lists of a unit: its blocks, and the rows of its picture
-pub record Listed-unit : Type 0 where
+pub record ListedUnit : Type 0 where
   pub blocks : List Block
   pub rows : List (List Code)
 
-pub record IsUnit (u : List ℕ) (l : Listed-unit) : Type 0 where
+pub record IsUnit (u : List ℕ) (l : ListedUnit) : Type 0 where
   pub chain : IsChain u (l .blocks)
   pub picture : IsPicture u (told (l .blocks)) (l .rows)

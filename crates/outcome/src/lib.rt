@@ -27,7 +27,7 @@ pub const SHORT_PIXELS: u8 = 22;
 // The lent words are too few for the bands.
 pub const SHORT_WORDS: u8 = 23;
 
-// The top field starts past the unit's end.
+// The top field starts at the unit's end or past it.
 pub const NO_TOP_FIELD: u8 = 25;
 
 // A field has no bytes left where a row still wants a code.

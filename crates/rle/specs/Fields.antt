@@ -22,11 +22,11 @@ weave [] b = []
 weave (x ∷ a) [] = x ∷ []
 weave (x ∷ a) (y ∷ b) = x ∷ y ∷ weave a b
 
--- n rows of the bottom field, or rows that stay 0 where there is none (FORMAT 5.7)
+-- n rows of the bottom field, or rows that stay 0 where there is none (FORMAT 3.8)
 unfoldable pub lowerAt : List ℕ → ℕ → ℕ → Bool → ℕ → ℕ → Res (List (List Code))
 lowerAt u from to shown w n = cond shown (fieldAt u to w n (2 * from)) (ok (replicate n []))
 
--- the rows of a picture of width w and height h: the top field is from byte t up to e, the bottom field from byte b up to f
+-- the rows of a picture of width w and height h: the top field is from byte t up to e, the bottom field from byte b up to f (FORMAT 3.8, 5.7)
 unfoldable pub fieldsAt : List ℕ → ℕ → ℕ → ℕ → ℕ → Bool → ℕ → ℕ → Res (List (List Code))
 fieldsAt u t e b f shown w h =
     andThen (fieldAt u e w (rowsFrom 0 h) (2 * t)) (λ x. andThen (lowerAt u b f shown w (rowsFrom 1 h)) (λ y. ok (weave x y)))

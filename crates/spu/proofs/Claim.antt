@@ -10,7 +10,7 @@ use Rattle.outcome.specs.Outcome.{Res, ok, refuse, short-pixels, short-words}
 use Rattle.outcome.proofs.Laws.{ok-not-refuse, check-ok, andThen-ok, mapRes-ok}
 use Rattle.grammar.specs.Bands.{bandWords}
 use Rattle.grammar.specs.Record.{told, width, height}
-use Rattle.grammar.specs.Picture.{Listed-unit}
+use Rattle.grammar.specs.Picture.{ListedUnit}
 use Rattle.control.specs.Chain.{controlAt}
 use Rattle.spu.specs.Unit.{rowsAt, listedUnit, unitAt, unitIn}
 use Rattle.spu.specs.Answers.{spuAnswer, unitMap, unitBands, Decoded}
@@ -20,7 +20,7 @@ use Rattle.spu.specs.declared.SpuAnswer.the-variants as spu-answer
 use Rattle.spu.proofs.Grammar.{unit-iff}
 
 -- a unit is found within lent lengths exactly where it is found and they are long enough
-in-sound : (u : List ℕ) (n m : ℕ) (l : Listed-unit) → unitIn u n m ≡ ok l → (unitAt u ≡ ok l) × LongEnough l n m
+in-sound : (u : List ℕ) (n m : ℕ) (l : ListedUnit) → unitIn u n m ≡ ok l → (unitAt u ≡ ok l) × LongEnough l n m
 unfolding unitIn unitAt
 in-sound u n m l e =
     let a = andThen-ok (controlAt u) _ e in
@@ -28,21 +28,21 @@ in-sound u n m l e =
     let b = check-ok (leb (width (told bs) * height (told bs)) n) short-pixels _ (a .2) in
     let c = check-ok (leb (length (bandWords (told bs .bands))) m) short-words _ (b .1) in
     let w = mapRes-ok (listedUnit bs) (rowsAt u (told bs)) (c .1) in
-    (rw (a .1) (c .1), subst (λ (k : Listed-unit). LongEnough k n m) (w .2) (leb-true _ _ (b .0), leb-true _ _ (c .0)))
+    (rw (a .1) (c .1), subst (λ (k : ListedUnit). LongEnough k n m) (w .2) (leb-true _ _ (b .0), leb-true _ _ (c .0)))
 
-in-complete : (u : List ℕ) (n m : ℕ) (l : Listed-unit) → unitAt u ≡ ok l → LongEnough l n m → unitIn u n m ≡ ok l
+in-complete : (u : List ℕ) (n m : ℕ) (l : ListedUnit) → unitAt u ≡ ok l → LongEnough l n m → unitIn u n m ≡ ok l
 unfolding unitIn unitAt
 in-complete u n m l e h =
     let a = andThen-ok (controlAt u) _ e in
     let bs = a .0 in
     let w = mapRes-ok (listedUnit bs) (rowsAt u (told bs)) (a .2) in
-    let k : LongEnough (listedUnit bs (w .0)) n m = subst (λ (x : Listed-unit). LongEnough x n m) (sym (w .2)) h in
+    let k : LongEnough (listedUnit bs (w .0)) n m = subst (λ (x : ListedUnit). LongEnough x n m) (sym (w .2)) h in
     rw (a .1, le-leb (width (told bs) * height (told bs)) n (k .0), le-leb (length (bandWords (told bs .bands))) m (k .1)) (a .2)
 
 pub claim : (u px ws : List ℕ) (r : SpuAnswer) (px′ ws′ : List ℕ) → Decoded u px ws r px′ ws′ → Says u px ws px′ ws′ r
 claim u px ws r px′ ws′ d = go (unitIn u (length px) (length ws)) refl (d .answer) (d .pixels) (d .words)
   where
-    go : (x : Res Listed-unit) → unitIn u (length px) (length ws) ≡ x → r ≡ spuAnswer x → px′ ≡ sets px 0 (unitMap x) → ws′ ≡ sets ws 0 (unitBands x) → Says u px ws px′ ws′ r
+    go : (x : Res ListedUnit) → unitIn u (length px) (length ws) ≡ x → r ≡ spuAnswer x → px′ ≡ sets px 0 (unitMap x) → ws′ ≡ sets ws 0 (unitBands x) → Says u px ws px′ ws′ r
     go (ok l) q e f g =
         let s = in-sound u (length px) (length ws) l q in
         subst (Says u px ws px′ ws′) (sym e) (l, unit-iff u l .0 (s .0), s .1, refl, f, g)
@@ -52,6 +52,6 @@ claim u px ws r px′ ws′ d = go (unitIn u (length px) (length ws)) refl (d .a
 pub measures : (u : List ℕ) (r : SpuAnswer) → r ≡ spuAnswer (unitAt u) → Measures u r
 measures u r d = go (unitAt u) refl d
   where
-    go : (x : Res Listed-unit) → unitAt u ≡ x → r ≡ spuAnswer x → Measures u r
+    go : (x : Res ListedUnit) → unitAt u ≡ x → r ≡ spuAnswer x → Measures u r
     go (ok l) q e = subst (Measures u) (sym e) (l, unit-iff u l .0 q, refl)
     go (refuse n) q e = subst (Measures u) (sym e) (λ l i. ok-not-refuse (sym q ∙ unit-iff u l .1 i))

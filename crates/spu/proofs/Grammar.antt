@@ -13,7 +13,7 @@ use Rattle.outcome.proofs.Laws.{ok-injective, and-true, check-ok, andThen-ok, m
 use Rattle.grammar.specs.Rows.{Code, RowCodes, FieldRows}
 use Rattle.grammar.specs.Control.{Block, lengthWord, controlWord}
 use Rattle.grammar.specs.Record.{Offsets, Told, told, width, height}
-use Rattle.grammar.specs.Picture.{evens, odds, topEnd, Stay0, Bottom, IsPicture, Listed-unit, IsUnit}
+use Rattle.grammar.specs.Picture.{evens, odds, topEnd, Stay0, Bottom, IsPicture, ListedUnit, IsUnit}
 use Rattle.control.specs.Chain.{hasArea, chainAt, controlAt}
 use Rattle.control.proofs.Laws.{chain-iff}
 use Rattle.rle.specs.Codes.{fieldAt}
@@ -186,7 +186,7 @@ module _ (u : List ℕ) (t : Told) (wide : t .at .x1 ≤ t .at .x2) (high : t .a
 
 -- ---- The unit
 
-pub unit-iff : (u : List ℕ) (l : Listed-unit) → (unitAt u ≡ ok l) ↔ IsUnit u l
+pub unit-iff : (u : List ℕ) (l : ListedUnit) → (unitAt u ≡ ok l) ↔ IsUnit u l
 unfolding unitAt controlAt
 unit-iff u l = (to, from)
   where
@@ -211,5 +211,5 @@ unit-iff u l = (to, from)
         let t = told (l .blocks) in
         rw (chain-iff u (l .blocks) .1 (h .chain), le-leb (t .at .x1) (t .at .x2) (p .wide), le-leb (t .at .y1) (t .at .y2) (p .high), picture-complete u t (p .wide) (p .high) (h .chain .order) (l .rows) p)
 
-pub unit-unique : (u : List ℕ) (a b : Listed-unit) → IsUnit u a → IsUnit u b → a ≡ b
+pub unit-unique : (u : List ℕ) (a b : ListedUnit) → IsUnit u a → IsUnit u b → a ≡ b
 unit-unique u a b x y = ok-injective (sym (unit-iff u a .1 x) ∙ unit-iff u b .1 y)

@@ -4,7 +4,7 @@ use native.Mathlib.Nat.{mul-le-mul-right}
 use native.Mathlib.Omega.{arith}
 use mathlib.Core.Path.{_≡_, refl, sym, ap, _∙_, subst}
 use mathlib.Core.Bool.{Bool, true, cond, _&&_}
-use mathlib.Core.List.{List}
+use mathlib.Core.List.{List, [], _∷_}
 use lib.ListN.{length}
 use lib.Dec.{leb, ltb}
 use lib.Seq.{sets}
@@ -259,5 +259,10 @@ needs-words s t e = ap (λ (r : Spu). r .«band_words») e
 pub is-ok : (u : List ℕ) (bs : List Block) → controlAt u ≡ ok bs → IsOk (controlAt u)
 is-ok u bs e = subst IsOk (sym e) tt
 
-pub words-fit : (u : List ℕ) (bs : List Block) (n : ℕ) → controlAt u ≡ ok bs → length (bandWords (told bs .bands)) ≤ n → length (unitWords u) ≤ n
-words-fit u bs n e h = subst (λ (r : Res (List Block)). length (bandWords (told (listed r) .bands)) ≤ n) (sym e) h
+pub words-are : (u : List ℕ) (bs : List Block) → controlAt u ≡ ok bs → length (bandWords (told bs .bands)) ≡ length (unitWords u)
+words-are u bs e = ap (λ (r : Res (List Block)). length (bandWords (told (listed r) .bands))) (sym e)
+
+-- no words are stored as none
+pub no-words : (ws vs : List ℕ) (n : ℕ) → n ≡ length vs → n ≤ 0 → ws ≡ sets ws 0 vs
+no-words ws [] n e h = refl
+no-words ws (v ∷ vs) n e h = absurd (omega arith)

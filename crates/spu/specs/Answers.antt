@@ -1,4 +1,4 @@
--- What each answer means, and what the map and the words hold afterwards. Assumes nothing: these are definitions.
+-- What each answer means, and what the map and the words hold afterwards (FORMAT 3.6, 4.5, 5.8, 5.9). Assumes nothing: these are definitions.
 use Prim.Native.Nat.{ℕ}
 use mathlib.Core.Path.{_≡_}
 use mathlib.Core.List.{List, []}
@@ -9,7 +9,7 @@ use Rattle.grammar.specs.Bands.{bandWords}
 use Rattle.grammar.specs.Pixels.{indexMap, codesIn}
 use Rattle.grammar.specs.Control.{lengthWord, controlWord}
 use Rattle.grammar.specs.Record.{Told, told, width, height}
-use Rattle.grammar.specs.Picture.{topEnd, Listed-unit}
+use Rattle.grammar.specs.Picture.{topEnd, ListedUnit}
 use Rattle.control.specs.Answers.{spuOf}
 use Rattle.rle.specs.Answers.{fieldAnswer}
 use Rattle.rle.specs.declared.FieldAnswer.{FieldAnswer}
@@ -18,7 +18,7 @@ use Rattle.spu.specs.declared.Layout.{Layout}
 use Rattle.spu.specs.declared.SpuAnswer.{SpuAnswer}
 use Rattle.spu.specs.declared.SpuAnswer.the-variants as spu-answer
 
--- the layout of a unit that tells t
+-- the layout of a unit u whose commands told t (FORMAT 3.7, 3.8)
 abbrev pub layoutOf : List ℕ → Told → Layout
 layoutOf u t =
     record {
@@ -33,20 +33,20 @@ layoutOf u t =
     }
 
 -- the record of what the blocks tell, with the number of codes that the rows list
-abbrev pub spuAnswer : Res Listed-unit → SpuAnswer
+abbrev pub spuAnswer : Res ListedUnit → SpuAnswer
 spuAnswer (ok l) = spu-answer.Shows (spuOf (told (l .blocks)) (codesIn (l .rows)))
 spuAnswer (refuse n) = spu-answer.Refused n
 
 -- the index map and the words of what is listed; none on a refusal
-abbrev pub unitMap : Res Listed-unit → List ℕ
+abbrev pub unitMap : Res ListedUnit → List ℕ
 unitMap (ok l) = indexMap (width (told (l .blocks))) (l .rows)
 unitMap (refuse n) = []
 
-abbrev pub unitBands : Res Listed-unit → List ℕ
+abbrev pub unitBands : Res ListedUnit → List ℕ
 unitBands (ok l) = bandWords (told (l .blocks) .bands)
 unitBands (refuse n) = []
 
--- what decoding the rows that t tells of leaves
+-- what decoding the rows of a unit u whose commands told t leaves
 pub record RowsDecoded (u : List ℕ) (t : Told) (px : List ℕ) (r : FieldAnswer) (px′ : List ℕ) : Type 0 where
   pub answer : r ≡ fieldAnswer (width t) (rowsAt u t)
   pub pixels : px′ ≡ sets px 0 (indexMap (width t) (listed (rowsAt u t)))

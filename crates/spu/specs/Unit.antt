@@ -1,4 +1,4 @@
--- The rows of a unit's picture, found, and so a whole unit: what is asked first refuses first (FORMAT 3.5, 3.8).
+-- The rows of a unit's picture, found, and so a whole unit: what is asked first refuses first (FORMAT 3.7, 3.8).
 -- Assumes nothing: these are definitions.
 use Prim.Native.Nat.{ℕ, _*_}
 use mathlib.Core.Bool.{Bool, _&&_}
@@ -10,7 +10,7 @@ use Rattle.grammar.specs.Rows.{Code}
 use Rattle.grammar.specs.Bands.{bandWords}
 use Rattle.grammar.specs.Control.{Block, lengthWord, controlWord}
 use Rattle.grammar.specs.Record.{Offsets, Told, told, width, height}
-use Rattle.grammar.specs.Picture.{topEnd, Listed-unit}
+use Rattle.grammar.specs.Picture.{topEnd, ListedUnit}
 use Rattle.control.specs.Chain.{controlAt}
 use Rattle.rle.specs.Fields.{fieldsAt}
 
@@ -21,21 +21,21 @@ hasBottom C b = ltb 0 b && ltb b C
 abbrev pub offsetsOf : ℕ → ℕ → Offsets
 offsetsOf t b = record { top = t; bottom = b }
 
--- the rows of the picture that the unit u tells t of
+-- the rows of a unit u whose commands told t (FORMAT 3.8)
 unfoldable pub rowsAt : List ℕ → Told → Res (List (List Code))
 rowsAt u t =
     check (ltb (t .fields .top) (lengthWord u)) no-top-field
     (fieldsAt u (t .fields .top) (topEnd (controlWord u) (t .fields)) (t .fields .bottom) (controlWord u) (hasBottom (controlWord u) (t .fields .bottom)) (width t) (height t))
 
-abbrev pub listedUnit : List Block → List (List Code) → Listed-unit
+abbrev pub listedUnit : List Block → List (List Code) → ListedUnit
 listedUnit bs rs = record { blocks = bs; rows = rs }
 
 -- a unit with no map and no words lent
-unfoldable pub unitAt : List ℕ → Res Listed-unit
+unfoldable pub unitAt : List ℕ → Res ListedUnit
 unitAt u = andThen (controlAt u) (λ bs. mapRes (listedUnit bs) (rowsAt u (told bs)))
 
--- and with a map of n pixels and m words
-unfoldable pub unitIn : List ℕ → ℕ → ℕ → Res Listed-unit
+-- and with a map of n pixels and m words (FORMAT 3.7)
+unfoldable pub unitIn : List ℕ → ℕ → ℕ → Res ListedUnit
 unitIn u n m =
     andThen (controlAt u)
     (λ bs.

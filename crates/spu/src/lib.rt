@@ -14,7 +14,9 @@ ghost use Rattle.grammar.specs.Control.{Block};
 ghost use Rattle.grammar.specs.Record.{Told, told, width, height};
 ghost use Rattle.grammar.specs.Picture.{topEnd};
 ghost use Rattle.spu.specs.Unit.{offsetsOf};
-ghost use Rattle.outcome.specs.Outcome.{ok};
+ghost use Rattle.outcome.specs.Outcome.{ok, IsOk};
+ghost use lib.Seq.{sets};
+ghost use Rattle.control.specs.Fill.{unitWords};
 ghost use Rattle.control.specs.Chain.{controlAt};
 ghost use Rattle.control.specs.Answers.{spuOf};
 ghost use Rattle.rle.specs.Answers.{fieldAnswer};
@@ -124,7 +126,7 @@ pub fn measure_rows(unit: &[u8], spu: Spu) -> FieldAnswer
 }
 
 // The same rows in the index map, which is as found on a refusal.
-// Ruled out: a row that stays 0 left as found.
+// Ruled out: a row that stays 0 left as found; a refusal after the first pixel is stored.
 pub fn decode_rows(unit: &[u8], spu: Spu, pixels: &mut [u8]) -> FieldAnswer
     requires { ⌜ ((bs : List Block) × (controlAt (now unit) ≡ ok bs) × (spu ≡ spuOf (told bs) 0) × (width (told bs) * height (told bs) ≤ length (now pixels))) ⌝ }
     ensures { λ r. ⌜ ((bs : List Block) → controlAt (now (unit .entry)) ≡ ok bs → RowsDecoded (now (unit .entry)) (told bs) (now (pixels .entry)) r (now (pixels .exit))) ⌝ }
@@ -160,6 +162,7 @@ fn with_codes(spu: Spu, codes: usize) -> Spu
 }
 
 // A unit's record and the number of its codes, with no map and no words.
+// Ruled out: a record of a unit whose rows are not all there; the number of one field's codes.
 pub fn measure_spu(unit: &[u8]) -> SpuAnswer
     ensures { λ r. ⌜ r ≡ spuAnswer (unitAt (now (unit .entry))) ⌝ }
 {
@@ -169,6 +172,16 @@ pub fn measure_spu(unit: &[u8]) -> SpuAnswer
             FieldAnswer::Refused(number) => SpuAnswer::Refused(number),
         },
         ControlAnswer::Refused(number) => SpuAnswer::Refused(number),
+    }
+}
+
+// The bands of a unit, which take `count` words. A unit without bands is not walked again.
+fn store_bands(unit: &[u8], count: usize, words: &mut [u16])
+    requires { ⌜ (IsOk (controlAt (now unit))) × (count ≡ length (unitWords (now unit))) × (count ≤ length (now words)) ⌝ }
+    ensures { λ _. ⌜ now (words .exit) ≡ sets (now (words .entry)) 0 (unitWords (now (unit .entry))) ⌝ }
+{
+    if 0 < count {
+        control::fill_bands(unit, words);
     }
 }
 
@@ -186,7 +199,7 @@ fn decode_told(unit: &[u8], spu: Spu, pixels: &mut [u8], words: &mut [u16]) -> S
     }
     match decode_rows(unit, spu, pixels) {
         FieldAnswer::Rows(counts) => {
-            control::fill_bands(unit, words);
+            store_bands(unit, spu.band_words, words);
             SpuAnswer::Shows(with_codes(spu, counts.codes))
         }
         FieldAnswer::Refused(number) => SpuAnswer::Refused(number),

@@ -2,12 +2,12 @@
 use borrow.Author.Needs.{needs}
 use native.Mathlib.Omega.{arith}
 use Prim.Native.Nat.{_*_, _≤_, _<_}
-use mathlib.Core.Path.{ap, subst}
+use mathlib.Core.Path.{ap, subst, _∙_}
 use lib.ListN.{length}
 use Rattle.grammar.specs.Record.{told, width, height}
 use Rattle.control.specs.declared.Spu.{Spu}
 use Rattle.spu.specs.declared.Layout.{Layout}
-use Rattle.spu.proofs.Turns.{area-small, short-map, short-bands, decoded-shows, decoded-stops, needs-words, words-fit, is-ok}
+use Rattle.spu.proofs.Turns.{area-small, short-map, short-bands, decoded-shows, decoded-stops, needs-words, words-are, is-ok}
 use Rattle.spu.proofs.decode_told.Statement.{statement}
 use Rattle.spu.proofs.decode_told.Tie as tie
 
@@ -29,8 +29,8 @@ decode-rows-requires c κs = (c .before .before .before .before .before .before 
 enum-known-counts : tie.Need-enum-known-counts
 enum-known-counts c = search needs
 
-fill-bands-requires : tie.Need-fill-bands-requires
-fill-bands-requires c κs = (is-ok _ _ (c .before .before .before .before .before .before .before .before .before .before .before .before .before .before .before .before .pre .1), words-fit _ _ _ (c .before .before .before .before .before .before .before .before .before .before .before .before .before .before .before .before .pre .1) (subst (λ n. n ≤ length (c .before .before .before .before .before .before .before .before .before .before .before .before .before .before .before .before .args .words .now)) (needs-words _ _ (c .before .before .before .before .before .before .before .before .before .before .before .before .before .before .before .before .pre .2)) (c .before .before .before .before .before .before .before .before .if2 .left)))
+store-bands-requires : tie.Need-store-bands-requires
+store-bands-requires c κs = (is-ok _ _ (c .before .before .before .before .before .before .before .before .before .before .before .before .before .before .before .before .pre .1), needs-words _ _ (c .before .before .before .before .before .before .before .before .before .before .before .before .before .before .before .before .pre .2) ∙ words-are _ _ (c .before .before .before .before .before .before .before .before .before .before .before .before .before .before .before .before .pre .1), c .before .before .before .before .before .before .before .before .if2 .left)
 
 with-codes-requires : tie.Need-with-codes-requires
 with-codes-requires c κs = search needs
@@ -48,7 +48,7 @@ returns-3 : tie.Need-returns-3
 returns-3 c =
     let bs = c .before .before .before .before .before .before .before .before .before .before .before .before .before .before .before .before .before .before .before .before .pre .0 in
     let e = c .before .before .before .before .before .before .before .before .before .before .before .before .before .before .before .before .before .before .before .before .pre .1 in
-    decoded-shows _ bs e _ _ (subst (λ n. n ≤ length (c .before .before .before .before .before .before .before .before .before .before .before .before .before .before .before .before .before .before .before .before .args .pixels .now)) (ap (λ (l : Layout). l .width * l .height) (c .before .before .before .before .before .before .before .before .before .before .before .before .before .before .before .before .laid-out .ensures .2 (c .before .before .before .before .before .before .before .before .before .before .before .before .before .before .before .before .before .before .before .before .pre .0) (c .before .before .before .before .before .before .before .before .before .before .before .before .before .before .before .before .before .before .before .before .pre .1))) (c .before .before .before .before .before .before .before .before .before .before .before .before .before .before .if1 .left)) (subst (λ n. n ≤ length (c .before .before .before .before .before .before .before .before .before .before .before .before .before .before .before .before .before .before .before .before .args .words .now)) (needs-words _ _ (c .before .before .before .before .before .before .before .before .before .before .before .before .before .before .before .before .before .before .before .before .pre .2)) (c .before .before .before .before .before .before .before .before .before .before .before .before .if2 .left)) _ _ _ _ _ (c .before .before .before .before .before .before .counts .given .1) (c .before .before .before .before .before .before .before .before .before .before .decode-rows .ensures bs e) (c .before .before .before .fill-bands .ensures) (c .with-codes .ensures (told bs) (c .before .before .before .before .before .before .before .before .before .before .before .before .before .before .before .before .before .before .before .before .pre .2))
+    decoded-shows _ bs e _ _ (subst (λ n. n ≤ length (c .before .before .before .before .before .before .before .before .before .before .before .before .before .before .before .before .before .before .before .before .args .pixels .now)) (ap (λ (l : Layout). l .width * l .height) (c .before .before .before .before .before .before .before .before .before .before .before .before .before .before .before .before .laid-out .ensures .2 (c .before .before .before .before .before .before .before .before .before .before .before .before .before .before .before .before .before .before .before .before .pre .0) (c .before .before .before .before .before .before .before .before .before .before .before .before .before .before .before .before .before .before .before .before .pre .1))) (c .before .before .before .before .before .before .before .before .before .before .before .before .before .before .if1 .left)) (subst (λ n. n ≤ length (c .before .before .before .before .before .before .before .before .before .before .before .before .before .before .before .before .before .before .before .before .args .words .now)) (needs-words _ _ (c .before .before .before .before .before .before .before .before .before .before .before .before .before .before .before .before .before .before .before .before .pre .2)) (c .before .before .before .before .before .before .before .before .before .before .before .before .if2 .left)) _ _ _ _ _ (c .before .before .before .before .before .before .counts .given .1) (c .before .before .before .before .before .before .before .before .before .before .decode-rows .ensures bs e) (c .before .before .before .store-bands .ensures) (c .with-codes .ensures (told bs) (c .before .before .before .before .before .before .before .before .before .before .before .before .before .before .before .before .before .before .before .before .pre .2))
 
 same-length-3 : tie.Need-same-length-3
 same-length-3 c = search needs
@@ -69,7 +69,7 @@ decode-told-spec =
     returns-2
     decode-rows-requires
     enum-known-counts
-    fill-bands-requires
+    store-bands-requires
     with-codes-requires
     enum-known-number
     same-length
