@@ -9,6 +9,8 @@ use Rattle.grammar.specs.Rows.{paints, afterCodes, align}
 use Rattle.grammar.specs.Pixels.{rowPixels, codesIn, indexMap}
 use Rattle.grammar.specs.Record.{untold, tellBlock, tellChain}
 use Rattle.grammar.specs.Picture.{topEnd}
+use Rattle.grammar.specs.Packets.{joined, unitOf}
+use Rattle.ps.specs.Packets.{leading, header1At, headerAt, bodyAt, keptAt, packAt, privateAt, kindAt, packetAt, packetsAt, isBare, formAt}
 use Rattle.rle.specs.Codes.{codeFrom, codeAt, rowAt, fieldAt}
 use Rattle.rle.specs.Field.{rowsFrom, paintField, decoded}
 use Rattle.rle.specs.Answers.{rowCounts, fieldCounts}
@@ -17,7 +19,7 @@ use Rattle.control.specs.Chain.{plainAt, changeAt, orderAt, commandAt, commands
 use Rattle.grammar.specs.Bands.{entryWords, bandWords}
 use Rattle.control.specs.Answers.{spuOf}
 use Rattle.spu.specs.Unit.{rowsAt, unitAt}
-use Rattle.cards.specs.Table.{Card, code, field, fields, unit, table}
+use Rattle.cards.specs.Table.{Card, code, field, fields, unit, found, table}
 
 abbrev pub got : List (List ℕ)
 got = map (λ (c : Card). c .got) table
@@ -26,7 +28,7 @@ abbrev pub want : List (List ℕ)
 want = map (λ (c : Card). c .want) table
 
 pub tabled : got ≡ want
-unfolding table code field fields unit listFuel listFrom word nibble nibbles paints afterCodes align rowPixels codesIn indexMap untold tellBlock tellChain topEnd codeFrom codeAt rowAt fieldAt rowsFrom paintField decoded rowCounts fieldCounts weave lowerAt fieldsAt plainAt changeAt orderAt commandAt commandsAt blockAt blocksAt headFits chainAt controlAt spuOf entryWords bandWords rowsAt unitAt
+unfolding table code field fields unit found joined unitOf leading header1At headerAt bodyAt keptAt packAt privateAt kindAt packetAt packetsAt isBare formAt listFuel listFrom word nibble nibbles paints afterCodes align rowPixels codesIn indexMap untold tellBlock tellChain topEnd codeFrom codeAt rowAt fieldAt rowsFrom paintField decoded rowCounts fieldCounts weave lowerAt fieldsAt plainAt changeAt orderAt commandAt commandsAt blockAt blocksAt headFits chainAt controlAt spuOf entryWords bandWords rowsAt unitAt
 tabled = refl
 
 pub each : (k : ℕ) → getD got k [] ≡ getD want k []

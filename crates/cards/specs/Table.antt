@@ -8,6 +8,7 @@ use Rattle.outcome.specs.Outcome.{Res, ok, refuse, listed}
 use Rattle.grammar.specs.Rows.{colour, paints}
 use Rattle.grammar.specs.Pixels.{codesIn, indexMap}
 use Rattle.grammar.specs.Control.{forced-start, stop, selectors, alphas, area, offsets, colours, Block}
+use Rattle.grammar.specs.Packets.{subpicture, unitOf}
 use Rattle.grammar.specs.Record.{told, delayOf, width, height}
 use Rattle.rle.specs.Codes.{codeAt}
 use Rattle.rle.specs.Field.{decoded, paintField}
@@ -15,6 +16,7 @@ use Rattle.rle.specs.Answers.{fieldCounts}
 use Rattle.control.specs.Chain.{command}
 use Rattle.control.specs.Answers.{spuOf}
 use Rattle.control.specs.declared.Spu.{Spu}
+use Rattle.ps.specs.Packets.{formAt}
 use Rattle.spu.specs.Unit.{unitAt}
 
 pub record Card : Type 0 where
@@ -50,6 +52,10 @@ unit u =
     let t = told (l .blocks) in
     width t ∷ height t ∷ t .selected ∷ t .alpha ∷ delayOf (t .starts) ∷ delayOf (t .stops) ∷ codesIn (l .rows) ∷ indexMap (width t) (l .rows))
     (unitAt u)
+
+-- the unit at the front of the file f
+unfoldable pub found : List ℕ → List ℕ
+found f = outcome unitOf (formAt subpicture f 0)
 
 -- a block that gives everything but a stop, and one that stops
 abbrev blocks : List Block
@@ -99,6 +105,12 @@ table =
     (0x00 ∷ 0x21 ∷ 0x00 ∷ 0x09 ∷ 0x00 ∷ 0x01 ∷ 0x60 ∷ 0x00 ∷ 0x30 ∷ 0x00 ∷ 0x00 ∷ 0x00 ∷ 0x09 ∷ 0x03 ∷ 0x01 ∷ 0x32 ∷ 0x04 ∷ 0x0F ∷ 0xFF ∷ 0x05 ∷ 0x00 ∷ 0x00 ∷ 0x01 ∷ 0x00 ∷ 0x00
     ∷ 0x01 ∷ 0x06 ∷ 0x00 ∷ 0x04 ∷ 0x00 ∷ 0x06 ∷ 0x01 ∷ 0xFF ∷ []))
     (0 ∷ 2 ∷ 2 ∷ 0x0132 ∷ 0x0FFF ∷ 0 ∷ 0 ∷ 3 ∷ 1 ∷ 1 ∷ 2 ∷ 3 ∷ [])
+    -- a unit bare; one kept by a packet; a packet that keeps two bytes 0, and so an empty unit; no packet, and no file
+    ∷ card (found (0x00 ∷ 0x04 ∷ 0x00 ∷ 0x04 ∷ [])) (0 ∷ 0x00 ∷ 0x04 ∷ 0x00 ∷ 0x04 ∷ [])
+    ∷ card (found (0x00 ∷ 0x00 ∷ 0x01 ∷ 0xBD ∷ 0x00 ∷ 0x08 ∷ 0x80 ∷ 0x00 ∷ 0x00 ∷ 0x20 ∷ 0x00 ∷ 0x04 ∷ 0x00 ∷ 0x04 ∷ [])) (0 ∷ 0x00 ∷ 0x04 ∷ 0x00 ∷ 0x04 ∷ [])
+    ∷ card (found (0x00 ∷ 0x00 ∷ 0x01 ∷ 0xBD ∷ 0x00 ∷ 0x06 ∷ 0x80 ∷ 0x00 ∷ 0x00 ∷ 0x20 ∷ 0x00 ∷ 0x00 ∷ [])) (0 ∷ [])
+    ∷ card (found (0x00 ∷ 0x03 ∷ 0x00 ∷ 0x04 ∷ [])) (13 ∷ [])
+    ∷ card (found []) (12 ∷ [])
     -- each value of what was told in its field of the record
     ∷ card (fieldsOf (spuOf (told blocks) 13)) (1 ∷ 2 ∷ 3 ∷ 4 ∷ 11 ∷ 12 ∷ 1 ∷ 7 ∷ 1 ∷ 9 ∷ 1 ∷ 5 ∷ 6 ∷ 1 ∷ 3 ∷ 13 ∷ [])
     ∷ card (fieldsOf (spuOf (told []) 0)) (replicate 16 0)

@@ -6,13 +6,14 @@ use mathlib.Core.Path.{_≡_, refl}
 use mathlib.Core.List.{List, [], _∷_, map}
 use mathlib.Core.Bool.{cond}
 use mathlib.Core.Option.{Option, some, none}
-use lib.ListN.{length, drop}
+use lib.ListN.{drop}
 use Rattle.grammar.specs.Bytes.{nibble, nibbles, word}
 use Rattle.grammar.specs.Rows.{Code, code, colour, paints, afterCodes, align}
 use Rattle.grammar.specs.Pixels.{rowPixels, codesIn, indexMap}
 use Rattle.grammar.specs.Control.{Order, forced-start, start, stop, selectors, alphas, area, offsets, colours, Command, commandEnd, Block}
 use Rattle.grammar.specs.Record.{Told, untold, tellBlock, tellChain, told, delayOf, width, height}
 use Rattle.grammar.specs.Picture.{evens, odds, topEnd}
+use Rattle.grammar.specs.Packets.{Part, Packet, bufferSize, stampSize, subpicture, lengthEnd, joined, bare, packets, unitOf}
 use Rattle.grammar.specs.Bands.{Entry, Band, entryWords, bandWords, bandEnd}
 use Rattle.grammar.specs.Look.{Look, rightmost, lastLook, lookAt}
 
@@ -78,6 +79,12 @@ listing t =
     t .at .x1 ∷ t .at .x2 ∷ t .at .y1 ∷ t .at .y2 ∷ width t ∷ height t ∷ t .selected ∷ t .alpha ∷ delayOf (t .starts) ∷ delayOf (t .stops)
     ∷ cond (t .forced) 1 0 ∷ t .fields .top ∷ t .fields .bottom ∷ cond (t .changed) 1 0 ∷ bandWords (t .bands)
 
+abbrev kept : ℕ → List ℕ → Part
+kept p b = record { place = p; bytes = b }
+
+abbrev carrier : Option Part → Packet
+carrier k = record { place = 0; code = 0xBD; end = 0; kept = k }
+
 cards : List Card
 cards =
     card (nibble (0xA3 ∷ 0x5C ∷ []) 0 ∷ nibble (0xA3 ∷ 0x5C ∷ []) 1 ∷ nibble (0xA3 ∷ 0x5C ∷ []) 3 ∷ []) (10 ∷ 3 ∷ 12 ∷ [])
@@ -120,11 +127,19 @@ cards =
     ∷ card (map (λ (c : Command). commandEnd c) (head (drop 1 blocks))) (25 ∷ 26 ∷ 29 ∷ 36 ∷ 41 ∷ 74 ∷ [])
     -- the bottom field follows, stands before the top field, starts past the control blocks, starts with the top field
     ∷ card (topEnd 30 (record { top = 4; bottom = 9 }) ∷ topEnd 30 (record { top = 9; bottom = 4 }) ∷ topEnd 30 (record { top = 4; bottom = 33 }) ∷ topEnd 30 (record { top = 9; bottom = 9 }) ∷ []) (9 ∷ 30 ∷ 30 ∷ 30 ∷ [])
+    -- buffer sizes and stamps of a packet's older header, by a byte on each side of each bound; subpicture ids
+    ∷ card (map bufferSize (0x3F ∷ 0x40 ∷ 0x7F ∷ 0x80 ∷ [])) (0 ∷ 2 ∷ 2 ∷ 0 ∷ [])
+    ∷ card (map stampSize (0x0E ∷ 0x0F ∷ 0x10 ∷ 0x1F ∷ 0x20 ∷ 0x2F ∷ 0x30 ∷ 0x3F ∷ 0x40 ∷ [])) (0 ∷ 1 ∷ 0 ∷ 0 ∷ 5 ∷ 5 ∷ 10 ∷ 10 ∷ 0 ∷ [])
+    ∷ card (map (λ (x : ℕ). cond (subpicture x) 1 0) (0x1F ∷ 0x20 ∷ 0x3F ∷ 0x40 ∷ [])) (0 ∷ 1 ∷ 1 ∷ 0 ∷ [])
+    ∷ card (lengthEnd (0 ∷ 0 ∷ 1 ∷ 0xBE ∷ 1 ∷ 2 ∷ []) 0 ∷ []) (264 ∷ [])
+    -- a unit bare, and one of three bytes kept by two packets, with a byte more
+    ∷ card (unitOf (bare (kept 7 (0 ∷ 4 ∷ 0 ∷ 4 ∷ [])))) (0 ∷ 4 ∷ 0 ∷ 4 ∷ [])
+    ∷ card (unitOf (packets (carrier (some (kept 9 (0 ∷ []))) ∷ carrier none ∷ carrier (some (kept 20 (3 ∷ 8 ∷ 9 ∷ []))) ∷ []))) (0 ∷ 3 ∷ 8 ∷ [])
     ∷ card (evens (1 ∷ 2 ∷ 3 ∷ 4 ∷ 5 ∷ [])) (1 ∷ 3 ∷ 5 ∷ [])
     ∷ card (odds (1 ∷ 2 ∷ 3 ∷ 4 ∷ 5 ∷ [])) (2 ∷ 4 ∷ [])
     ∷ card (indexMap 6 (row ∷ [] ∷ row ∷ [])) (3 ∷ 2 ∷ 2 ∷ 2 ∷ 2 ∷ 1 ∷ 0 ∷ 0 ∷ 0 ∷ 0 ∷ 0 ∷ 0 ∷ 3 ∷ 2 ∷ 2 ∷ 2 ∷ 2 ∷ 1 ∷ [])
     ∷ []
 
 tabled : map (λ c. c .got) cards ≡ map (λ c. c .want) cards
-unfolding cards nibble nibbles paints afterCodes align rowPixels codesIn indexMap word entryWords bandWords rightmost lastLook lookAt untold tellBlock tellChain topEnd evens
+unfolding cards nibble nibbles paints afterCodes align rowPixels codesIn indexMap word entryWords bandWords rightmost lastLook lookAt untold tellBlock tellChain topEnd evens joined unitOf
 tabled = refl

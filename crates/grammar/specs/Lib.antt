@@ -6,3 +6,4 @@ pub mod Record
 pub mod Rows
 pub mod Pixels
 pub mod Picture
+pub mod Packets

@@ -9,6 +9,15 @@ pub data Res (A : Type 0) : Type 0 where
   refuse : ℕ → Res A
 
 -- the refusals that the layers give, by name
+abbrev pub past-file : ℕ
+past-file = 12
+
+abbrev pub no-unit : ℕ
+no-unit = 13
+
+abbrev pub short-scratch : ℕ
+short-scratch = 14
+
 abbrev pub no-head : ℕ
 no-head = 15
 

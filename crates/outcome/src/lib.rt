@@ -1,5 +1,14 @@
 // The numbers that refusals carry, one name each (docs/FORMAT.md, table of refusals). A layer adds its own here.
 
+// A cue's position is at the file's end or past it.
+pub const PAST_FILE: u8 = 12;
+
+// No unit stands at a position, bare or in packets.
+pub const NO_UNIT: u8 = 13;
+
+// The lent scratch is shorter than the unit that packets hold.
+pub const SHORT_SCRATCH: u8 = 14;
+
 // The bytes are too few for a unit's head.
 pub const NO_HEAD: u8 = 15;
 
