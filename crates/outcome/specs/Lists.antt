@@ -1,4 +1,4 @@
--- A list that is found item by item, from a state on: one definition for codes, commands and blocks.
+-- A list that is found item by item, from a state on: one definition for codes, commands, blocks and packets.
 -- Assumes nothing: these are definitions.
 use Prim.Native.Nat.{ℕ, zero, suc}
 use mathlib.Core.Path.{_≡_}

@@ -98,7 +98,7 @@ fn body_start(pes: &[u8]) -> BodyAnswer
 }
 
 // The body of a PES, as the rest of it; `found` says whether there is one.
-// Ruled out: a body behind the stuffing of another form; a rest that starts past the PES.
+// Ruled out: stuffing looked for in a header of the newer form; a rest that starts past the PES.
 pub fn parse_pes_body<'a>(pes: &'a [u8], found: &mut bool) -> &'a [u8]
     ensures { λ r. ⌜ (now r ≡ bodyRest (now (pes .entry)) (bodyAt (now (pes .entry)) 0 (length (now (pes .entry))))) × (now (found .exit) ≡ bodyFound (bodyAt (now (pes .entry)) 0 (length (now (pes .entry))))) ⌝ }
 {

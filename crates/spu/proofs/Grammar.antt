@@ -1,5 +1,5 @@
 -- A unit is read exactly where the grammar lists its parts, so that no unit has two readings. Assumes nothing.
-use Prim.Native.Nat.{ℕ, zero, suc, _+_, _*_, _/_, _≤_, _<_, min}
+use Prim.Native.Nat.{ℕ, zero, suc, _+_, _*_, _/_, _≤_, _<_}
 use native.Mathlib.Omega.{arith}
 use mathlib.Core.Path.{_≡_, refl, sym, ap, _∙_, subst}
 use mathlib.Core.Bool.{Bool, true, false, cond, _&&_}
@@ -12,7 +12,7 @@ use Rattle.outcome.specs.Outcome.{ok, check, mapRes, no-area, no-top-field}
 use Rattle.outcome.proofs.Laws.{ok-injective, and-true, check-ok, andThen-ok, mapRes-ok, le-or-lt}
 use Rattle.grammar.specs.Rows.{Code, RowCodes, FieldRows}
 use Rattle.grammar.specs.Control.{Block, lengthWord, controlWord}
-use Rattle.grammar.specs.Record.{Offsets, Told, told, width, height}
+use Rattle.grammar.specs.Record.{Told, told, width, height}
 use Rattle.grammar.specs.Picture.{evens, odds, topEnd, Stay0, Bottom, IsPicture, ListedUnit, IsUnit}
 use Rattle.control.specs.Chain.{hasArea, chainAt, controlAt}
 use Rattle.control.proofs.Laws.{chain-iff}
@@ -22,6 +22,7 @@ use Rattle.rle.specs.Fields.{weave, lowerAt, fieldsAt}
 use Rattle.rle.proofs.Laws.{field-iff}
 use Rattle.rle.proofs.Both.{fields-woven}
 use Rattle.spu.specs.Unit.{hasBottom, rowsAt, listedUnit, unitAt}
+use Rattle.spu.proofs.Turns.{end-most}
 
 -- ---- Rows in turn
 
@@ -119,13 +120,6 @@ rows-halves : (h : ℕ) → (rowsFrom 0 h ≡ (h + 1) / 2) × (rowsFrom 1 h ≡ 
 unfolding rowsFrom
 rows-halves h = (omega arith, omega arith)
 
-top-inside : (C : ℕ) (f : Offsets) → topEnd C f ≤ C
-unfolding topEnd
-top-inside C f = go (cond (ltb (f .top) (f .bottom)) (f .bottom) C)
-  where
-    go : (x : ℕ) → min C x ≤ C
-    go x = omega arith
-
 -- the first row of a field has a code, so the field starts before its end
 starts-before : (u : List ℕ) (e w p : ℕ) (rs : List (List Code)) → 0 < w → 0 < length rs → FieldRows u e w (2 * p) rs → p < e
 unfolding FieldRows RowCodes
@@ -175,7 +169,7 @@ module _ (u : List ℕ) (t : Told) (wide : t .at .x1 ≤ t .at .x2) (high : t .a
       let la : length (evens rs) ≡ rowsFrom 0 (height t) = omega arith in
       let lb : length (odds rs) ≡ rowsFrom 1 (height t) = omega arith in
       let s = starts-before u (topEnd (controlWord u) (t .fields)) (width t) (t .fields .top) (evens rs) (omega arith) (omega arith) (h .top) in
-      let i = top-inside (controlWord u) (t .fields) in
+      let i = end-most (controlWord u) (t .fields) in
       let k : t .fields .top < lengthWord u = omega arith in
       rw (
         lt-ltb (t .fields .top) (lengthWord u) k,

@@ -48,7 +48,8 @@ pub end-at-control : (C t b : ℕ) → b ≤ t → C ≡ topEnd C (offsetsOf t b
 unfolding topEnd
 end-at-control C t b h = rw (le-ltb t b h) (omega arith)
 
-end-most : (C : ℕ) (f : Offsets) → topEnd C f ≤ C
+-- no field goes past C
+pub end-most : (C : ℕ) (f : Offsets) → topEnd C f ≤ C
 unfolding topEnd
 end-most C f = go (cond (ltb (f .top) (f .bottom)) (f .bottom) C)
   where
