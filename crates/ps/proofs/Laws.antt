@@ -1,9 +1,9 @@
 -- The packets and the unit that are found are the ones that the grammar lists, so that no place has two units. Assumes nothing.
-use Prim.Native.Nat.{ℕ, zero, suc, _+_, _-_, _/_, _%_, _≤_, _<_}
+use Prim.Native.Nat.{ℕ, zero, suc, _+_, _-_, _*_, _/_, _%_, _≤_, _<_}
 use native.Mathlib.Nat.{add-zero}
 use native.Mathlib.Omega.{arith}
 use mathlib.Core.Path.{_≡_, refl, sym, ap, _∙_, subst}
-use mathlib.Core.Bool.{Bool, true, false, cond, _&&_}
+use mathlib.Core.Bool.{Bool, true, false, not, cond, _&&_}
 use mathlib.Core.Logic.{_⊎_, inl, inr, ⊎-elim, _↔_}
 use mathlib.Core.Option.{Option, some, none}
 use mathlib.Core.List.{List, [], _∷_, _++_}
@@ -19,17 +19,30 @@ use Rattle.grammar.specs.Packets.{Part, Packet, Stuffing, Header2, Header1, IsB
 use Rattle.ps.specs.Packets.{part, leading, stampAt, header1At, headerAt, bodyAt, packet, keptAt, packAt, privateAt, kindAt, packetAt, Stand, stand, complete, standDone, standPacket, standNext, packetsAt, isBare, formAt}
 
 -- a test that is or is not
-either : (t : Bool) → (t ≡ true) ⊎ (t ≡ false)
+pub either : (t : Bool) → (t ≡ true) ⊎ (t ≡ false)
 either true = inl refl
 either false = inr refl
 
-not-so : (t : Bool) → (t ≡ true → ⊥) → t ≡ false
+pub not-so : (t : Bool) → (t ≡ true → ⊥) → t ≡ false
 not-so true h = absurd (h refl)
 not-so false h = refl
 
-clash : (t : Bool) → t ≡ true → t ≡ false → ⊥
+pub clash : (t : Bool) → t ≡ true → t ≡ false → ⊥
 clash true p q = let z : _≡_ {A = ℕ} 0 1 = cc in omega arith
 clash false p q = let z : _≡_ {A = ℕ} 0 1 = cc in omega arith
+
+pub not-true : (t : Bool) → not t ≡ true → t ≡ false
+not-true true h = let z : _≡_ {A = ℕ} 0 1 = cc in absurd (omega arith)
+not-true false h = refl
+
+pub not-false : (t : Bool) → not t ≡ false → t ≡ true
+not-false true h = refl
+not-false false h = let z : _≡_ {A = ℕ} 0 1 = cc in absurd (omega arith)
+
+-- a word by its two bytes
+pub word-at : (f : List ℕ) (p q : ℕ) → p + 1 ≡ q → byte f p * 256 + byte f q ≡ word f p
+unfolding word
+word-at f p q e = rw e
 
 -- ---- Stuffing
 
@@ -216,7 +229,7 @@ module _ (id : ℕ → Bool) (f : List ℕ) where
       rw (ne-eqb (byte f (q .place + 3)) 0xBA (λ z. h .not-pack (c ∙ z)), ne-eqb (byte f (q .place + 3)) 0xBD (λ z. h .not-private (c ∙ z)), ne-eqb (byte f (q .place + 3)) 0xB9 (λ z. h .not-end (c ∙ z)))
       (made-is q _ none c (h .end-is) (h .keeps-nothing))
 
-  kind-longer : (q : Packet) → Kind q → q .place < q .end
+  kind-longer : (q : Packet) → Kind q → q .place + 6 ≤ q .end
   kind-longer q (inl h) = ⊎-elim (λ x. let y = x .1 in omega arith) (λ x. let y = x .1 in omega arith) (h .2)
   kind-longer q (inr (inl h)) = let y = h .end-is in omega arith
   kind-longer q (inr (inr h)) = let y = h .end-is in omega arith
@@ -242,6 +255,9 @@ module _ (id : ℕ → Bool) (f : List ℕ) where
           kind = r .kind;
         },
       )
+
+  pub packet-longer : (q : Packet) → IsPacket id f q → q .place + 6 ≤ q .end
+  packet-longer q h = kind-longer q (h .kind)
 
   packet-complete : (q : Packet) → IsPacket id f q → packetAt id f (q .place) ≡ ok q
   unfolding packetAt
@@ -286,7 +302,7 @@ module _ (id : ℕ → Bool) (f : List ℕ) where
 
   -- ---- The unit
 
-  bare-sound : (p : ℕ) → isBare id f p ≡ true → Bare f p
+  pub bare-sound : (p : ℕ) → isBare id f p ≡ true → Bare f p
   unfolding isBare
   bare-sound p t =
       let g = and-true (leb (p + 4) (length f) && leb 4 (word f p)) (leb (p + word f p) (length f)) t in

@@ -1,2 +1,4 @@
 pub mod Packets
+pub mod Unit
 pub mod Answers
+pub mod Claim

@@ -1,0 +1,101 @@
+-- `ps::join_packets` meets its contract: each turn is one packet more, and the last is cut where the unit ends. Assumes nothing.
+use borrow.Author.Needs.{needs}
+use native.Mathlib.Omega.{arith}
+use mathlib.Core.Path.{_≡_, sym, ap, _∙_, refl}
+use mathlib.Core.List.{List, []}
+use Prim.Native.Nat.{_+_, _-_}
+use lib.ListN.{length}
+use Rattle.outcome.specs.Outcome.{ok}
+use Rattle.outcome.proofs.Laws.{ok-injective}
+use Rattle.grammar.specs.Packets.{Packet, packets, unitOf, joined, subpicture}
+use Rattle.ps.specs.Packets.{packetsAt}
+use Rattle.ps.proofs.Read.{keeps-told, passes-told, refused-told}
+use Rattle.ps.proofs.Join.{Joining, joining-starts, joining-ends, joining-refused, joining-passes, joining-goes, unit-within}
+use Rattle.ps.proofs.join_packets.Statement.{statement}
+use Rattle.ps.proofs.join_packets.Tie as tie
+
+abbrev Inv-loop : tie.InvT-loop
+Inv-loop file from t scratch₀ at₀ have₀ scratch at have =
+    (ps : List Packet) → packetsAt subpicture file from [] ≡ ok ps → t ≡ length (unitOf (packets ps)) → Joining file (joined ps) t scratch₀ scratch at have
+
+abbrev μ-loop : tie.MeasureT-loop
+μ-loop file from t scratch₀ at₀ have₀ scratch at have = length file - at
+
+loop-holds : tie.Need-loop-holds Inv-loop μ-loop
+loop-holds c = λ ps q r. joining-starts _ _ ps q _ _
+
+read-packet-requires : tie.Need-read-packet-requires Inv-loop μ-loop
+read-packet-requires c κs = search needs
+
+enum-told : tie.Need-enum-told Inv-loop μ-loop
+enum-told c = search needs
+
+same-length : tie.Need-same-length Inv-loop μ-loop
+same-length c = c .before .before .before .before .loop .inv (c .before .before .before .before .before .before .before .pre .0) (c .before .before .before .before .before .before .before .pre .1) (c .before .before .before .before .before .before .before .pre .2) .size
+
+returns : tie.Need-returns Inv-loop μ-loop
+returns c = absurd (joining-refused (c .before .before .before .before .before .before .before .args .file .now) (joined (c .before .before .before .before .before .before .before .pre .0)) (c .before .before .before .before .before .before .before .args .t) (omega (arith, c .before .before .before .before .before .before .before .pre .2, unit-within (c .before .before .before .before .before .before .before .args .file .now) (c .before .before .before .before .before .before .before .args .from) (c .before .before .before .before .before .before .before .pre .0) (c .before .before .before .before .before .before .before .pre .1))) _ _ _ _ (c .before .before .before .before .loop .inv (c .before .before .before .before .before .before .before .pre .0) (c .before .before .before .before .before .before .before .pre .1) (c .before .before .before .before .before .before .before .pre .2)) (c .before .before .before .loop-test .taken) _ (refused-told (c .before .before .before .before .before .before .before .args .file .now) (c .before .before .before .before .loop .at) _ (c .before .before .read-packet .ensures) _ (c .enum-told .given .1)))
+
+enum-known-end : tie.Need-enum-known-end Inv-loop μ-loop
+enum-known-end c = search needs
+
+loop-less : tie.Need-loop-less Inv-loop μ-loop
+loop-less c = let u = passes-told (c .before .before .before .before .before .before .before .before .args .file .now) (c .before .before .before .before .before .loop .at) _ (c .before .before .before .read-packet .ensures) _ (c .before .end .given .1) in let l = u .after in let m = u .inside in omega arith
+
+loop-again : tie.Need-loop-again Inv-loop μ-loop
+loop-again c = λ ps q r. joining-passes (c .before .before .before .before .before .before .before .before .args .file .now) (joined ps) (c .before .before .before .before .before .before .before .before .args .t) (omega (arith, r, unit-within (c .before .before .before .before .before .before .before .before .args .file .now) (c .before .before .before .before .before .before .before .before .args .from) ps q)) _ _ _ _ (c .before .before .before .before .before .loop .inv ps q r) (c .before .before .before .before .loop-test .taken) _ _ (passes-told (c .before .before .before .before .before .before .before .before .args .file .now) (c .before .before .before .before .before .loop .at) _ (c .before .before .before .read-packet .ensures) _ (c .before .end .given .1)) refl
+
+enum-known-a : tie.Need-enum-known-a Inv-loop μ-loop
+enum-known-a c = search needs
+
+sub-least : tie.Need-sub-least Inv-loop μ-loop
+sub-least c = let u = keeps-told (c .before .before .before .before .before .before .before .before .args .file .now) (c .before .before .before .before .before .loop .at) _ (c .before .before .before .read-packet .ensures) _ _ (c .before .a .given .1) in u .upto
+
+sub-least-2 : tie.Need-sub-least-2 Inv-loop μ-loop
+sub-least-2 c = omega (arith, c .before .before .before .before .loop-test .taken)
+
+least-requires : tie.Need-least-requires Inv-loop μ-loop
+least-requires c κs = search needs
+
+copy-requires : tie.Need-copy-requires Inv-loop μ-loop
+copy-requires c κs = let u = keeps-told (c .before .before .before .before .before .before .before .before .before .before .args .file .now) (c .before .before .before .before .before .before .before .loop .at) _ (c .before .before .before .before .before .read-packet .ensures) _ _ (c .before .before .before .a .given .1) in let i = u .inside in let o = u .upto in let z = c .before .before .before .before .before .before .before .loop .inv (c .before .before .before .before .before .before .before .before .before .before .pre .0) (c .before .before .before .before .before .before .before .before .before .before .pre .1) (c .before .before .before .before .before .before .before .before .before .before .pre .2) .size in let p = c .before .before .before .before .before .before .before .before .before .before .pre .3 in let m = c .before .least .ensures in (omega (arith, c .before .before .before .before .before .before .loop-test .taken), omega (arith, c .before .before .before .before .before .before .loop-test .taken))
+
+add-have : tie.Need-add-have Inv-loop μ-loop
+add-have c = let m = c .before .before .before .before .least .ensures in let p = c .before .before .before .before .before .before .before .before .before .before .before .before .before .pre .3 in omega (arith, c .before .before .before .before .before .before .before .before .before .loop-test .taken, c .before .before .before .before .before .before .before .before .before .before .before .before .before .fits .t)
+
+loop-less-2 : tie.Need-loop-less-2 Inv-loop μ-loop
+loop-less-2 c = let u = keeps-told (c .before .before .before .before .before .before .before .before .before .before .before .before .before .args .file .now) (c .before .before .before .before .before .before .before .before .before .before .loop .at) _ (c .before .before .before .before .before .before .before .before .read-packet .ensures) _ _ (c .before .before .before .before .before .before .a .given .1) in let l = u .after in let m = u .inside in let o = u .upto in omega arith
+
+loop-again-2 : tie.Need-loop-again-2 Inv-loop μ-loop
+loop-again-2 c = λ ps q r. joining-goes (c .before .before .before .before .before .before .before .before .before .before .before .before .before .args .file .now) (joined ps) (c .before .before .before .before .before .before .before .before .before .before .before .before .before .args .t) (omega (arith, r, unit-within (c .before .before .before .before .before .before .before .before .before .before .before .before .before .args .file .now) (c .before .before .before .before .before .before .before .before .before .before .before .before .before .args .from) ps q)) _ _ _ _ (c .before .before .before .before .before .before .before .before .before .before .loop .inv ps q r) (c .before .before .before .before .before .before .before .before .before .loop-test .taken) _ _ (keeps-told (c .before .before .before .before .before .before .before .before .before .before .before .before .before .args .file .now) (c .before .before .before .before .before .before .before .before .before .before .loop .at) _ (c .before .before .before .before .before .before .before .before .read-packet .ensures) _ _ (c .before .before .before .before .before .before .a .given .1)) _ (c .before .before .before .before .least .ensures) _ (c .before .before .copy .ensures)
+
+same-length-2 : tie.Need-same-length-2 Inv-loop μ-loop
+same-length-2 c = c .before .loop .inv (c .before .before .before .before .pre .0) (c .before .before .before .before .pre .1) (c .before .before .before .before .pre .2) .size
+
+returns-2 : tie.Need-returns-2 Inv-loop μ-loop
+returns-2 c = λ ps q. let r = c .before .before .before .before .pre .2 ∙ ap (λ (l : List Packet). length (unitOf (packets l))) (ok-injective (sym (c .before .before .before .before .pre .1) ∙ q)) in joining-ends _ _ ps q _ _ _ _ _ r (c .before .loop .inv ps q r) (c .loop-test .left)
+
+pub join-packets-spec : {M : Type 1} → statement M
+join-packets-spec =
+    tie.close
+    (tie.spec
+    Inv-loop
+    μ-loop
+    loop-holds
+    read-packet-requires
+    enum-told
+    same-length
+    returns
+    enum-known-end
+    loop-less
+    loop-again
+    enum-known-a
+    sub-least
+    sub-least-2
+    least-requires
+    copy-requires
+    add-have
+    loop-less-2
+    loop-again-2
+    same-length-2
+    returns-2)
