@@ -2,7 +2,7 @@
 use Prim.Native.Nat.{ℕ, zero, suc, _+_, _-_, _≤_, _<_}
 use native.Mathlib.Omega.{arith}
 use mathlib.Core.Path.{_≡_, refl, sym, ap}
-use mathlib.Core.Bool.{Bool, true, false, _&&_}
+use mathlib.Core.Bool.{Bool, true, false, not, _&&_}
 use mathlib.Core.Logic.{_⊎_, inl, inr}
 use mathlib.Core.List.{List, [], _∷_, _++_}
 use lib.Dec.{leb}
@@ -27,6 +27,27 @@ andThen-ok (refuse n) k e = ok-not-refuse e
 pub consRes-ok : {A : Type 0} (a : A) (r : Res (List A)) {l : List A} → consRes a r ≡ ok l → (t : List A) × (r ≡ ok t) × (a ∷ t ≡ l)
 consRes-ok a (ok t) e = (t, refl, ok-injective e)
 consRes-ok a (refuse n) e = ok-not-refuse e
+
+-- a test that is or is not
+pub either : (t : Bool) → (t ≡ true) ⊎ (t ≡ false)
+either true = inl refl
+either false = inr refl
+
+pub not-so : (t : Bool) → (t ≡ true → ⊥) → t ≡ false
+not-so true h = absurd (h refl)
+not-so false h = refl
+
+pub clash : (t : Bool) → t ≡ true → t ≡ false → ⊥
+clash true p q = let z : _≡_ {A = ℕ} 0 1 = cc in omega arith
+clash false p q = let z : _≡_ {A = ℕ} 0 1 = cc in omega arith
+
+pub not-true : (t : Bool) → not t ≡ true → t ≡ false
+not-true true h = let z : _≡_ {A = ℕ} 0 1 = cc in absurd (omega arith)
+not-true false h = refl
+
+pub not-false : (t : Bool) → not t ≡ false → t ≡ true
+not-false true h = refl
+not-false false h = let z : _≡_ {A = ℕ} 0 1 = cc in absurd (omega arith)
 
 pub and-true : (a b : Bool) → (a && b) ≡ true → (a ≡ true) × (b ≡ true)
 and-true true b e = (refl, e)

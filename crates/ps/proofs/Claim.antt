@@ -1,10 +1,10 @@
 -- The layer keeps its claim: what an answer says in the grammar's words. Assumes nothing.
-use Prim.Native.Nat.{ℕ, _+_, _-_, _≤_, _<_}
+use Prim.Native.Nat.{ℕ, _+_, _-_, _≤_}
 use native.Mathlib.Omega.{arith}
 use mathlib.Core.Path.{_≡_, refl, sym, ap, _∙_, subst}
 use mathlib.Core.List.{List}
 use lib.ListN.{length, take, drop}
-use lib.Seq.{sets, sets-eq, slice, length-slice, take-at}
+use lib.Seq.{sets, sets-eq, length-slice, take-at}
 use lib.Dec.{leb}
 use borrow.Author.Tests.{leb-true, le-leb}
 use Rattle.outcome.specs.Outcome.{Res, ok, refuse, short-scratch}

@@ -1,6 +1,5 @@
 -- What packets keep, joined: measured, and copied into scratch. Assumes nothing.
-use Prim.Native.Nat.{ℕ, suc, _+_, _-_, _*_, _≤_, _<_, min}
-use native.Mathlib.Nat.{zero-add}
+use Prim.Native.Nat.{ℕ, _+_, _-_, _*_, _≤_, _<_, min}
 use native.Mathlib.Numerals.{add-one}
 use native.Mathlib.Omega.{arith}
 use mathlib.Core.Path.{_≡_, refl, sym, ap, _∙_, subst}
@@ -12,7 +11,7 @@ use lib.Seq.{slice, sets, slice-empty, length-slice, length-sets, length-take-le
 use lib.Dec.{leb, ltb}
 use borrow.Author.Tests.{le-leb, lt-leb, lt-ltb, le-ltb, leb-true, leb-false, ltb-true, ltb-false}
 use Rattle.outcome.specs.Outcome.{Res, ok, refuse, andThen, consRes}
-use Rattle.outcome.proofs.Laws.{ok-not-refuse, ok-injective, andThen-ok, consRes-ok, sets-append, part-slice}
+use Rattle.outcome.proofs.Laws.{ok-not-refuse, ok-injective, consRes-ok, sets-append, part-slice, either}
 use Rattle.outcome.proofs.Lists.{list-step}
 use Rattle.grammar.specs.Bytes.{byte, word}
 use Rattle.grammar.specs.Packets.{Packet, keptBytes, joined, packets, unitOf, subpicture}
@@ -20,7 +19,7 @@ use Rattle.ps.specs.Packets.{packetAt, Stand, stand, complete, standDone
 use Rattle.ps.specs.Answers.{joinedGiven}
 use Rattle.ps.specs.declared.JoinedAnswer.{JoinedAnswer}
 use Rattle.ps.specs.declared.JoinedAnswer.the-variants as joined-answer
-use Rattle.ps.proofs.Laws.{either, packet-falls}
+use Rattle.ps.proofs.Laws.{packet-falls}
 use Rattle.ps.proofs.Shift.{byte-slice}
 use Rattle.ps.proofs.Read.{Told}
 

@@ -3,7 +3,7 @@ use Prim.Native.Nat.{ℕ, zero, suc, _+_, _-_, _*_, _/_, _%_, _≤_, _<_}
 use native.Mathlib.Nat.{add-zero}
 use native.Mathlib.Omega.{arith}
 use mathlib.Core.Path.{_≡_, refl, sym, ap, _∙_, subst}
-use mathlib.Core.Bool.{Bool, true, false, not, cond, _&&_}
+use mathlib.Core.Bool.{Bool, true, false, cond, _&&_}
 use mathlib.Core.Logic.{_⊎_, inl, inr, ⊎-elim, _↔_}
 use mathlib.Core.Option.{Option, some, none}
 use mathlib.Core.List.{List, [], _∷_, _++_}
@@ -12,32 +12,11 @@ use lib.Dec.{leb, eqb, ltb}
 use borrow.Author.Tests.{leb-true, eqb-true, eqb-false, ltb-true, le-leb, eq-eqb, ne-eqb, lt-ltb}
 use Rattle.outcome.specs.Outcome.{Res, ok, refuse, check, mapRes, past-file, no-unit}
 use Rattle.outcome.specs.Lists.{Listed}
-use Rattle.outcome.proofs.Laws.{ok-not-refuse, ok-injective, and-true, check-ok, andThen-ok, mapRes-ok, le-or-lt}
+use Rattle.outcome.proofs.Laws.{ok-not-refuse, ok-injective, either, not-so, clash, and-true, check-ok, andThen-ok, mapRes-ok, le-or-lt}
 use Rattle.outcome.proofs.Lists.{list-iff}
 use Rattle.grammar.specs.Bytes.{byte, word}
 use Rattle.grammar.specs.Packets.{Part, Packet, Stuffing, Header2, Header1, IsBody, Keeps, lengthEnd, IsPack, IsPrivate, IsOther, IsPacket, keptBytes, Complete, Packets, Bare, Form, bare, packets, IsForm}
 use Rattle.ps.specs.Packets.{part, leading, stampAt, header1At, headerAt, bodyAt, packet, keptAt, packAt, privateAt, kindAt, packetAt, Stand, stand, complete, standDone, standPacket, standNext, packetsAt, isBare, formAt}
-
--- a test that is or is not
-pub either : (t : Bool) → (t ≡ true) ⊎ (t ≡ false)
-either true = inl refl
-either false = inr refl
-
-pub not-so : (t : Bool) → (t ≡ true → ⊥) → t ≡ false
-not-so true h = absurd (h refl)
-not-so false h = refl
-
-pub clash : (t : Bool) → t ≡ true → t ≡ false → ⊥
-clash true p q = let z : _≡_ {A = ℕ} 0 1 = cc in omega arith
-clash false p q = let z : _≡_ {A = ℕ} 0 1 = cc in omega arith
-
-pub not-true : (t : Bool) → not t ≡ true → t ≡ false
-not-true true h = let z : _≡_ {A = ℕ} 0 1 = cc in absurd (omega arith)
-not-true false h = refl
-
-pub not-false : (t : Bool) → not t ≡ false → t ≡ true
-not-false true h = refl
-not-false false h = let z : _≡_ {A = ℕ} 0 1 = cc in absurd (omega arith)
 
 -- a word by its two bytes
 pub word-at : (f : List ℕ) (p q : ℕ) → p + 1 ≡ q → byte f p * 256 + byte f q ≡ word f p

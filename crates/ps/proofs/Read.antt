@@ -5,20 +5,20 @@ use mathlib.Core.Path.{_≡_, refl, sym, ap, _∙_, subst}
 use mathlib.Core.Bool.{Bool, true, false, cond, _&&_}
 use mathlib.Core.Logic.{_⊎_, inl, inr, ⊎-elim}
 use mathlib.Core.Option.{Option, some, none}
-use mathlib.Core.List.{List, []}
-use lib.ListN.{length, drop, length-drop}
+use mathlib.Core.List.{List}
+use lib.ListN.{length, length-drop}
 use lib.Seq.{slice, slice-empty, length-slice, getD-drop}
-use lib.Dec.{eqb, leb, ltb}
+use lib.Dec.{eqb, leb}
 use borrow.Author.Tests.{eq-eqb, ne-eqb, le-leb, lt-leb, lt-ltb, le-ltb, eqb-true}
-use Rattle.outcome.specs.Outcome.{Res, ok, refuse, check, andThen, mapRes, no-unit}
-use Rattle.outcome.proofs.Laws.{ok-not-refuse, and-true, check-refuse, andThen-refuse, mapRes-refuse}
-use Rattle.grammar.specs.Bytes.{byte, word}
+use Rattle.outcome.specs.Outcome.{Res, ok, refuse, check, mapRes, no-unit}
+use Rattle.outcome.proofs.Laws.{ok-not-refuse, and-true, check-refuse, andThen-refuse, mapRes-refuse, either, not-so}
+use Rattle.grammar.specs.Bytes.{byte}
 use Rattle.grammar.specs.Packets.{Part, Packet, lengthEnd, Keeps, IsPack, IsPrivate, IsOther, IsPacket, keptBytes, subpicture}
-use Rattle.ps.specs.Packets.{part, bodyAt, packet, keptAt, packAt, privateAt, kindAt, packetAt}
+use Rattle.ps.specs.Packets.{bodyAt, packet, keptAt, packAt, privateAt, kindAt, packetAt}
 use Rattle.ps.specs.Answers.{bodyRest, bodyFound, packetGiven, wholeGiven, keptGiven}
 use Rattle.ps.specs.declared.PacketAnswer.{PacketAnswer}
 use Rattle.ps.specs.declared.PacketAnswer.the-variants as packet-answer
-use Rattle.ps.proofs.Laws.{either, not-so, packet-sound, packet-longer, body-iff}
+use Rattle.ps.proofs.Laws.{packet-sound, packet-longer, body-iff}
 use Rattle.ps.proofs.Shift.{body-after, body-refuses, body-file, byte-slice}
 
 -- ---- Packets that are refused

@@ -6,15 +6,15 @@ use mathlib.Core.Path.{_≡_, refl, sym, ap, _∙_, subst}
 use mathlib.Core.Bool.{true, false}
 use mathlib.Core.Logic.{_⊎_, inl, inr, ⊎-elim}
 use mathlib.Core.List.{List}
-use lib.ListN.{length, take}
+use lib.ListN.{take}
 use lib.Seq.{slice, getD-drop, getD-take}
 use lib.Dec.{eqb, leb, ltb}
 use Rattle.outcome.specs.Outcome.{Res, ok, refuse, check, mapRes, no-unit}
-use Rattle.outcome.proofs.Laws.{ok-not-refuse, check-refuse, andThen-refuse}
+use Rattle.outcome.proofs.Laws.{ok-not-refuse, check-refuse, andThen-refuse, either}
 use Rattle.grammar.specs.Bytes.{byte}
 use Rattle.grammar.specs.Packets.{bufferSize, stampSize, Stuffing, Header2, Header1, IsBody}
 use Rattle.ps.specs.Packets.{leading, stampAt, header1At, headerAt, bodyAt}
-use Rattle.ps.proofs.Laws.{either, body-iff}
+use Rattle.ps.proofs.Laws.{body-iff}
 
 -- the n bytes of s from c on are those of f from a on
 pub record Alike (s : List ℕ) (c : ℕ) (f : List ℕ) (a n : ℕ) : Type 0 where

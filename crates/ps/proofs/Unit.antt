@@ -2,25 +2,24 @@
 use Prim.Native.Nat.{ℕ, _+_, _-_, _≤_, _<_}
 use native.Mathlib.Omega.{arith}
 use mathlib.Core.Path.{_≡_, refl, sym, ap, _∙_}
-use mathlib.Core.Bool.{Bool, true, false, cond}
+use mathlib.Core.Bool.{true, false, cond}
 use mathlib.Core.Logic.{⊎-elim}
 use mathlib.Core.List.{List, []}
 use lib.ListN.{length, take, drop, length-drop, drop-of-length-le}
 use lib.Seq.{slice, sets, length-slice, take-all, take-nil}
-use lib.Dec.{leb, ltb}
+use lib.Dec.{leb}
 use borrow.Author.Tests.{le-leb, lt-leb, lt-ltb, le-ltb}
-use Rattle.outcome.specs.Outcome.{Res, ok, refuse, past-file, no-unit, short-scratch}
-use Rattle.outcome.proofs.Laws.{ok-not-refuse, ok-injective}
+use Rattle.outcome.specs.Outcome.{Res, ok, refuse, past-file, short-scratch}
+use Rattle.outcome.proofs.Laws.{either}
 use Rattle.grammar.specs.Bytes.{word}
-use Rattle.grammar.specs.Packets.{Packet, Form, bare, packets, unitOf, subpicture}
-use Rattle.ps.specs.Packets.{part, packetsAt, isBare, formAt}
-use Rattle.ps.specs.Unit.{scratchFor, unitAt, joinedAt}
-use Rattle.ps.specs.Answers.{joinedGiven, unitGiven, unitStored, unitPart, Extracted}
-use Rattle.ps.specs.declared.JoinedAnswer.{JoinedAnswer}
+use Rattle.grammar.specs.Packets.{Packet, Form, packets, unitOf, subpicture}
+use Rattle.ps.specs.Packets.{packetsAt, isBare, formAt}
+use Rattle.ps.specs.Unit.{unitAt, joinedAt}
+use Rattle.ps.specs.Answers.{joinedGiven, unitGiven, unitStored, Extracted}
 use Rattle.ps.specs.declared.JoinedAnswer.the-variants as joined-answer
 use Rattle.ps.specs.declared.UnitAnswer.{UnitAnswer}
 use Rattle.ps.specs.declared.UnitAnswer.the-variants as unit-answer
-use Rattle.ps.proofs.Laws.{either, bare-sound}
+use Rattle.ps.proofs.Laws.{bare-sound}
 
 -- ---- A part, clipped
 

@@ -9,7 +9,6 @@ use lib.ListN.{length, take, drop}
 use lib.Seq.{sets}
 use Rattle.outcome.specs.Outcome.{Res, ok, refuse, check, andThen, no-unit}
 use Rattle.grammar.specs.Packets.{Part, Packet, Form, bare, packets, unitOf, subpicture}
-use Rattle.ps.specs.Packets.{packetsAt}
 use Rattle.ps.specs.Unit.{unitAt}
 use Rattle.ps.specs.declared.BodyAnswer.{BodyAnswer}
 use Rattle.ps.specs.declared.BodyAnswer.the-variants as body-answer

@@ -5,7 +5,7 @@ use mathlib.Core.List.{List, []}
 use lib.Dec.{leb}
 use lib.ListN.{length}
 use Rattle.outcome.specs.Outcome.{Res, ok, check, andThen, mapRes, short-scratch}
-use Rattle.grammar.specs.Packets.{Packet, Form, bare, packets, unitOf}
+use Rattle.grammar.specs.Packets.{Form, bare, packets, unitOf}
 use Rattle.ps.specs.Packets.{packetsAt, formAt}
 
 -- how much scratch a form takes: only packets take any (FORMAT 2.9)

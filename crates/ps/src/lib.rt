@@ -10,7 +10,7 @@ ghost use Prim.Native.Nat.{_≤_, _<_, _+_, _-_, _*_, min};
 ghost use lib.Dec.{ltb};
 ghost use lib.ListN.{length, take, drop};
 ghost use lib.Seq.{sets, slice};
-ghost use Rattle.outcome.specs.Outcome.{Res, ok, refuse, no-unit};
+ghost use Rattle.outcome.specs.Outcome.{ok};
 ghost use Rattle.grammar.specs.Bytes.{byte, word};
 ghost use Rattle.grammar.specs.Packets.{Packet, packets, unitOf, bufferSize, stampSize, subpicture};
 ghost use Rattle.ps.specs.Packets.{leading, header1At, bodyAt, packet, packAt, privateAt, packetAt, packetsAt, isBare};

@@ -1,7 +1,7 @@
 -- `ps::bare_size` meets its contract: by each condition in turn. Assumes nothing.
 use borrow.Author.Needs.{needs}
 use native.Mathlib.Omega.{arith}
-use mathlib.Core.Path.{_≡_, _∙_, refl}
+use mathlib.Core.Path.{_∙_, refl}
 use Prim.Native.Nat.{_+_}
 use Rattle.ps.proofs.Laws.{word-at}
 use Rattle.ps.proofs.Unit.{bare-few, bare-small, bare-long, bare-yes}

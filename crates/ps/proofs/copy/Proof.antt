@@ -1,5 +1,4 @@
 -- `ps::copy` meets its contract: each turn is one byte more. Assumes nothing.
-use borrow.Author.Needs.{needs}
 use native.Mathlib.Omega.{arith}
 use Prim.Native.Nat.{_-_}
 use lib.ListN.{drop}

@@ -1,5 +1,4 @@
 -- `ps::is_subpicture` meets its contract: by both bounds. Assumes nothing.
-use native.Mathlib.Omega.{arith}
 use borrow.Author.Tests.{le-leb, lt-leb}
 use Rattle.ps.proofs.is_subpicture.Statement.{statement}
 use Rattle.ps.proofs.is_subpicture.Tie as tie

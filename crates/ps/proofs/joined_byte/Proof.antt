@@ -1,5 +1,4 @@
 -- `ps::joined_byte` meets its contract: by where the byte stands. Assumes nothing.
-use borrow.Author.Needs.{needs}
 use native.Mathlib.Omega.{arith}
 use Rattle.ps.proofs.Join.{byte-old, byte-past, byte-new}
 use Rattle.ps.proofs.joined_byte.Statement.{statement}

@@ -1,9 +1,8 @@
 -- `ps::measure_packets` meets its contract: each turn is one packet more. Assumes nothing.
 use borrow.Author.Needs.{needs}
 use native.Mathlib.Omega.{arith}
-use mathlib.Core.Path.{_≡_, sym, _∙_}
 use mathlib.Core.List.{[]}
-use Prim.Native.Nat.{_+_, _-_}
+use Prim.Native.Nat.{_-_}
 use lib.ListN.{length}
 use Rattle.grammar.specs.Packets.{subpicture}
 use Rattle.ps.specs.Packets.{packetsAt}

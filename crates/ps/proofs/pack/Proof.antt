@@ -1,5 +1,4 @@
 -- `ps::pack` meets its contract: by the form of the header. Assumes nothing.
-use borrow.Author.Needs.{needs}
 use native.Mathlib.Omega.{arith}
 use mathlib.Core.Path.{_∙_, refl}
 use Rattle.ps.proofs.Read.{pack-cut, pack-newer, pack-older, pack-none}

@@ -1,5 +1,4 @@
 -- `ps::passing` meets its contract: by whether the packet is whole. Assumes nothing.
-use borrow.Author.Needs.{needs}
 use native.Mathlib.Omega.{arith}
 use Rattle.ps.proofs.Read.{whole-yes, whole-no}
 use Rattle.ps.proofs.passing.Statement.{statement}

@@ -3,8 +3,7 @@ use borrow.Author.Needs.{needs}
 use native.Mathlib.Omega.{arith}
 use mathlib.Core.Path.{sym, _∙_}
 use Prim.Native.Nat.{_+_}
-use Rattle.outcome.proofs.Laws.{part-slice}
-use Rattle.ps.proofs.Laws.{not-true, not-false}
+use Rattle.outcome.proofs.Laws.{part-slice, not-true, not-false}
 use Rattle.ps.proofs.Read.{private-cut, private-none, private-fits, private-empty, private-other, private-keeps}
 use Rattle.ps.proofs.private_stream.Statement.{statement}
 use Rattle.ps.proofs.private_stream.Tie as tie

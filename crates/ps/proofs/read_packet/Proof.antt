@@ -1,7 +1,7 @@
 -- `ps::read_packet` meets its contract: by its prefix and its code. Assumes nothing.
 use borrow.Author.Needs.{needs}
 use native.Mathlib.Omega.{arith}
-use mathlib.Core.Path.{_≡_, _∙_}
+use mathlib.Core.Path.{_∙_}
 use Prim.Native.Nat.{_+_}
 use Rattle.ps.proofs.Laws.{word-at}
 use Rattle.ps.proofs.Read.{packet-short, packet-unprefixed, packet-pack, packet-private, packet-ending, packet-other}
