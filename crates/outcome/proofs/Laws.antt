@@ -1,13 +1,14 @@
 -- What an answer says of its parts, and stores in a list. Assumes nothing.
 use Prim.Native.Nat.{ℕ, zero, suc, _+_, _-_, _≤_, _<_}
+use native.Mathlib.Numerals.{add-one}
 use native.Mathlib.Omega.{arith}
-use mathlib.Core.Path.{_≡_, refl, sym, ap}
+use mathlib.Core.Path.{_≡_, refl, sym, ap, _∙_}
 use mathlib.Core.Bool.{Bool, true, false, not, _&&_}
 use mathlib.Core.Logic.{_⊎_, inl, inr}
 use mathlib.Core.List.{List, [], _∷_, _++_}
 use lib.Dec.{leb}
-use lib.ListN.{length, set, take, drop}
-use lib.Seq.{sets, slice, take-nil}
+use lib.ListN.{length, getD, set, take, drop}
+use lib.Seq.{sets, slice, take-nil, take-suc, take-all, length-take-le, length-sets}
 use borrow.Author.Tests.{leb-true, leb-false}
 use Rattle.outcome.specs.Outcome.{Res, ok, refuse, check, andThen, consRes, mapRes}
 
@@ -99,3 +100,26 @@ part-slice zero e l = let z : e - 0 ≡ e = omega arith in rw z
 part-slice (suc a) zero l = let z : 0 - suc a ≡ 0 = omega arith in rw z
 part-slice (suc a) (suc e) [] = take-nil (suc e - suc a)
 part-slice (suc a) (suc e) (x ∷ l) = let z : suc e - suc a ≡ e - a = omega arith in rw z (part-slice a e l)
+
+-- a list that is copied element by element: i of l are in s from place `to` on
+pub record Copying (l s₀ : List ℕ) (to i : ℕ) (s : List ℕ) : Type 0 where
+  pub upto : i ≤ length l
+  pub held : s ≡ sets s₀ to (take i l)
+  pub size : length s ≡ length s₀
+
+pub copying-starts : (l s₀ : List ℕ) (to : ℕ) → Copying l s₀ to 0 s₀
+copying-starts l s₀ to = record { upto = omega arith; held = refl; size = refl }
+
+pub copying-goes : (l s₀ : List ℕ) (to i : ℕ) (s : List ℕ) → Copying l s₀ to i s → i < length l → (s′ : List ℕ) → s′ ≡ set s (to + i) (getD l i 0) → Copying l s₀ to (i + 1) s′
+copying-goes l s₀ to i s c h s′ e =
+    let g : length (take i l) ≡ i = length-take-le i l (omega arith) in
+    let q : s′ ≡ sets s₀ to (take (i + 1) l) =
+    e
+    ∙ ap (λ (x : List ℕ). set x (to + i) (getD l i 0)) (c .held)
+    ∙ ap (λ (n : ℕ). set (sets s₀ to (take i l)) (to + n) (getD l i 0)) (sym g)
+    ∙ sym (sets-append s₀ to (take i l) (getD l i 0 ∷ []))
+    ∙ ap (sets s₀ to) (sym (take-suc l i 0 h) ∙ ap (λ (n : ℕ). take n l) (sym (add-one i))) in
+    record { upto = omega arith; held = q; size = ap length q ∙ length-sets s₀ to (take (i + 1) l) }
+
+pub copying-ends : (l s₀ : List ℕ) (to i : ℕ) (s : List ℕ) → Copying l s₀ to i s → length l ≤ i → s ≡ sets s₀ to l
+copying-ends l s₀ to i s c h = c .held ∙ ap (sets s₀ to) (take-all i l h)

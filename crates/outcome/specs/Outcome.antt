@@ -51,6 +51,21 @@ no-top-field = 25
 abbrev pub field-ran-out : ℕ
 field-ran-out = 26
 
+abbrev pub bad-side : ℕ
+bad-side = 27
+
+abbrev pub not-all-indices : ℕ
+not-all-indices = 28
+
+abbrev pub bad-index : ℕ
+bad-index = 29
+
+abbrev pub long-unit : ℕ
+long-unit = 30
+
+abbrev pub short-output : ℕ
+short-output = 31
+
 -- r where the test holds, else the refusal n: what is asked first refuses first
 abbrev pub check : {A : Type 0} → Bool → ℕ → Res A → Res A
 check t n r = cond t r (refuse n)

@@ -41,3 +41,18 @@ pub const NO_TOP_FIELD: u8 = 25;
 
 // A field has no bytes left where a row still wants a code.
 pub const FIELD_RAN_OUT: u8 = 26;
+
+// A side of a picture to be written is not 1 to 4,096.
+pub const BAD_SIDE: u8 = 27;
+
+// The indices of a picture to be written are not width times height.
+pub const NOT_ALL_INDICES: u8 = 28;
+
+// An index of a picture to be written is above 3.
+pub const BAD_INDEX: u8 = 29;
+
+// The unit to be written would have more than 65,535 bytes.
+pub const LONG_UNIT: u8 = 30;
+
+// The lent output is shorter than the unit.
+pub const SHORT_OUTPUT: u8 = 31;

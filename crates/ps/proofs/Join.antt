@@ -1,13 +1,12 @@
 -- What packets keep, joined: measured, and copied into scratch. Assumes nothing.
 use Prim.Native.Nat.{ℕ, _+_, _-_, _*_, _≤_, _<_, min}
-use native.Mathlib.Numerals.{add-one}
 use native.Mathlib.Omega.{arith}
 use mathlib.Core.Path.{_≡_, refl, sym, ap, _∙_, subst}
 use mathlib.Core.Bool.{Bool, true, false, cond}
 use mathlib.Core.Logic.{⊎-elim}
 use mathlib.Core.List.{List, [], _∷_, _++_, append-assoc, append-nil}
-use lib.ListN.{length, take, drop, set, length-take, length-append, length-drop, List·getD-append, List·getD-eq-default}
-use lib.Seq.{slice, sets, slice-empty, length-slice, length-sets, length-take-le, getD-append-add, getD-drop, take-suc, take-all, take-at, take-take, take-append-le, take-append-add}
+use lib.ListN.{length, take, drop, length-take, length-append, length-drop, List·getD-append, List·getD-eq-default}
+use lib.Seq.{slice, sets, slice-empty, length-slice, length-sets, length-take-le, getD-append-add, getD-drop, getD-take, take-all, take-at, take-take, take-append-le, take-append-add}
 use lib.Dec.{leb, ltb}
 use borrow.Author.Tests.{le-leb, lt-leb, lt-ltb, le-ltb, leb-true, leb-false, ltb-true, ltb-false}
 use Rattle.outcome.specs.Outcome.{Res, ok, refuse, andThen, consRes}
@@ -181,31 +180,13 @@ module _ (f : List ℕ) (x : JoinedAnswer) (at have first second : ℕ) (i : Mea
 
 -- ---- Copying
 
-pub record Copying (l s₀ : List ℕ) (to m i : ℕ) (s : List ℕ) : Type 0 where
-  pub upto : i ≤ m
-  pub held : s ≡ sets s₀ to (take i l)
-  pub size : length s ≡ length s₀
+-- the m bytes from a on
+module _ (f : List ℕ) (a m : ℕ) (h : a + m ≤ length f) where
+  pub part-length : length (take m (drop a f)) ≡ m
+  part-length = length-take-le m (drop a f) (rw (length-drop a f) (omega arith))
 
-pub copying-starts : (l s₀ : List ℕ) (to m : ℕ) → Copying l s₀ to m 0 s₀
-copying-starts l s₀ to m = record { upto = omega arith; held = refl; size = refl }
-
-pub copying-goes : (f s₀ : List ℕ) (a to m i : ℕ) (s : List ℕ) → Copying (drop a f) s₀ to m i s → i < m → a + m ≤ length f → Copying (drop a f) s₀ to m (i + 1) (set s (to + i) (byte f (a + i)))
-copying-goes f s₀ a to m i s c h k =
-    let l : i < length (drop a f) = rw (length-drop a f) (omega arith) in
-    let g : length (take i (drop a f)) ≡ i = length-take-le i (drop a f) (omega arith) in
-    let q : set s (to + i) (byte f (a + i)) ≡ sets s₀ to (take (i + 1) (drop a f)) =
-    ap (λ (x : List ℕ). set x (to + i) (byte f (a + i))) (c .held)
-    ∙ ap (λ (n : ℕ). set (sets s₀ to (take i (drop a f))) (to + n) (byte f (a + i))) (sym g)
-    ∙ ap (λ (v : ℕ). set (sets s₀ to (take i (drop a f))) (to + length (take i (drop a f))) v) (sym (getD-drop a f i 0))
-    ∙ sym (sets-append s₀ to (take i (drop a f)) (byte (drop a f) i ∷ []))
-    ∙ ap (sets s₀ to) (sym (take-suc (drop a f) i 0 l) ∙ ap (λ (n : ℕ). take n (drop a f)) (sym (add-one i))) in
-    record { upto = omega arith; held = q; size = ap length q ∙ length-sets s₀ to (take (i + 1) (drop a f)) }
-
-pub copying-ends : (f s₀ : List ℕ) (a to m i : ℕ) (s : List ℕ) → Copying (drop a f) s₀ to m i s → m ≤ i → s ≡ sets s₀ to (take m (drop a f))
-copying-ends f s₀ a to m i s c h =
-    let u = c .upto in
-    let q : i ≡ m = omega arith in
-    c .held ∙ ap (λ (n : ℕ). sets s₀ to (take n (drop a f))) q
+  pub part-byte : (i : ℕ) → i < m → byte f (a + i) ≡ byte (take m (drop a f)) i
+  part-byte i l = sym (getD-take m (drop a f) i 0 l ∙ getD-drop a f i 0)
 
 -- ---- Joining in scratch
 

@@ -30,7 +30,7 @@ in-sound u n m l e =
     let w = mapRes-ok (listedUnit bs) (rowsAt u (told bs)) (c .1) in
     (rw (a .1) (c .1), subst (λ (k : ListedUnit). LongEnough k n m) (w .2) (leb-true _ _ (b .0), leb-true _ _ (c .0)))
 
-in-complete : (u : List ℕ) (n m : ℕ) (l : ListedUnit) → unitAt u ≡ ok l → LongEnough l n m → unitIn u n m ≡ ok l
+pub in-complete : (u : List ℕ) (n m : ℕ) (l : ListedUnit) → unitAt u ≡ ok l → LongEnough l n m → unitIn u n m ≡ ok l
 unfolding unitIn unitAt
 in-complete u n m l e h =
     let a = andThen-ok (controlAt u) _ e in

@@ -28,23 +28,23 @@ use Rattle.spu.proofs.Turns.{end-most}
 
 module _ {A : Type 0} where
   -- as many of the first, or one more
-  abbrev Paired : List A → List A → Type 0
+  abbrev pub Paired : List A → List A → Type 0
   Paired a b = (length b ≤ length a) × (length a ≤ length b + 1)
 
-  weave-length : (a b : List A) → Paired a b → length (weave a b) ≡ length a + length b
+  pub weave-length : (a b : List A) → Paired a b → length (weave a b) ≡ length a + length b
   unfolding weave
   weave-length [] b h = let l = h .0 in omega arith
   weave-length (x ∷ a) [] h = let l = h .1 in omega arith
   weave-length (x ∷ a) (y ∷ b) h = let i = weave-length a b (let l = h .0 in omega arith, let l = h .1 in omega arith) in omega arith
 
-  weave-evens : (a b : List A) → Paired a b → evens (weave a b) ≡ a
+  pub weave-evens : (a b : List A) → Paired a b → evens (weave a b) ≡ a
   unfolding weave evens
   weave-evens [] b h = refl
   weave-evens (x ∷ []) [] h = refl
   weave-evens (x ∷ z ∷ a) [] h = absurd (let l = h .1 in omega arith)
   weave-evens (x ∷ a) (y ∷ b) h = ap (λ (l : List A). x ∷ l) (weave-evens a b (let l = h .0 in omega arith, let l = h .1 in omega arith))
 
-  weave-odds : (a b : List A) → Paired a b → odds (weave a b) ≡ b
+  pub weave-odds : (a b : List A) → Paired a b → odds (weave a b) ≡ b
   unfolding weave evens
   weave-odds [] [] h = refl
   weave-odds [] (y ∷ b) h = absurd (let l = h .0 in omega arith)
@@ -58,20 +58,20 @@ module _ {A : Type 0} where
       rest (z ∷ a) h = absurd (let l = h .1 in omega arith)
   weave-odds (x ∷ w ∷ a) (y ∷ z ∷ b) h = ap (λ (l : List A). y ∷ l) (weave-odds (w ∷ a) (z ∷ b) (let l = h .0 in omega arith, let l = h .1 in omega arith))
 
-  weave-whole : (rs : List A) → weave (evens rs) (odds rs) ≡ rs
+  pub weave-whole : (rs : List A) → weave (evens rs) (odds rs) ≡ rs
   unfolding weave evens
   weave-whole [] = refl
   weave-whole (x ∷ []) = refl
   weave-whole (x ∷ y ∷ []) = refl
   weave-whole (x ∷ y ∷ z ∷ rs) = ap (λ (l : List A). x ∷ y ∷ l) (weave-whole (z ∷ rs))
 
-  evens-length : (rs : List A) → length (evens rs) ≡ (length rs + 1) / 2
+  pub evens-length : (rs : List A) → length (evens rs) ≡ (length rs + 1) / 2
   unfolding evens
   evens-length [] = refl
   evens-length (x ∷ []) = refl
   evens-length (x ∷ y ∷ rs) = let i = evens-length rs in omega arith
 
-  odds-length : (rs : List A) → length (odds rs) ≡ length rs / 2
+  pub odds-length : (rs : List A) → length (odds rs) ≡ length rs / 2
   unfolding evens
   odds-length [] = refl
   odds-length (x ∷ rs) = let i = evens-length rs in omega arith

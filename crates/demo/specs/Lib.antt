@@ -1,0 +1,4 @@
+pub mod Codes
+pub mod Unit
+pub mod Answers
+pub mod Claim
