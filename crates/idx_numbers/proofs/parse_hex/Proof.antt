@@ -1,0 +1,23 @@
+-- `idx_numbers::parse_hex` meets its contract: the number of the stripped part. Assumes nothing.
+use borrow.Author.Needs.{needs}
+use mathlib.Core.Path.{_∙_, ap}
+use Rattle.idx_numbers.specs.Numbers.{unsigned}
+use Rattle.idx_numbers.proofs.parse_hex.Statement.{statement}
+use Rattle.idx_numbers.proofs.parse_hex.Tie as tie
+
+strip-0x-requires : tie.Need-strip-0x-requires
+strip-0x-requires c κs = search needs
+
+parse-unsigned-requires : tie.Need-parse-unsigned-requires
+parse-unsigned-requires c κs = search needs
+
+returns : tie.Need-returns
+returns c = c .parse-unsigned .ensures ∙ ap (unsigned 16 (c .before .before .before .args .top)) (c .before .strip-0x .ensures)
+
+pub parse-hex-spec : {M : Type 1} → statement M
+parse-hex-spec =
+    tie.close
+    (tie.spec
+    strip-0x-requires
+    parse-unsigned-requires
+    returns)

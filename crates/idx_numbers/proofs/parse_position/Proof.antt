@@ -1,0 +1,34 @@
+-- `idx_numbers::parse_position` meets its contract: by whether there is a hexadecimal number. Assumes nothing.
+use borrow.Author.Needs.{needs}
+use Rattle.idx_numbers.proofs.Numbers.{position-hex, position-dec}
+use Rattle.idx_numbers.proofs.parse_position.Statement.{statement}
+use Rattle.idx_numbers.proofs.parse_position.Tie as tie
+
+parse-hex-requires : tie.Need-parse-hex-requires
+parse-hex-requires c κs = search needs
+
+enum-known-v : tie.Need-enum-known-v
+enum-known-v c = search needs
+
+enum-told : tie.Need-enum-told
+enum-told c = search needs
+
+parse-unsigned-requires : tie.Need-parse-unsigned-requires
+parse-unsigned-requires c κs = search needs
+
+returns : tie.Need-returns
+returns c = position-hex (c .before .before .before .before .before .args .s .now) _ (c .before .before .before .parse-hex .ensures) _ (c .before .v .given .1)
+
+returns-2 : tie.Need-returns-2
+returns-2 c = position-dec (c .before .before .before .before .before .args .s .now) _ (c .before .before .before .parse-hex .ensures) (c .parse-unsigned .result) (c .before .enum-told .given .1) (c .parse-unsigned .ensures)
+
+pub parse-position-spec : {M : Type 1} → statement M
+parse-position-spec =
+    tie.close
+    (tie.spec
+    parse-hex-requires
+    enum-known-v
+    enum-told
+    parse-unsigned-requires
+    returns
+    returns-2)
