@@ -52,7 +52,7 @@ fn is_blank(b: u8) -> bool
 }
 
 // How many leading bytes are blanks.
-fn blanks(s: &[u8]) -> usize
+pub fn blanks(s: &[u8]) -> usize
     ensures { λ r. ⌜ r ≡ length (front IndexParts.blank (now (s .entry))) ⌝ }
 {
     let mut i = 0;
@@ -66,7 +66,7 @@ fn blanks(s: &[u8]) -> usize
 }
 
 // How many bytes are left without the trailing blanks.
-fn kept(s: &[u8]) -> usize
+pub fn kept(s: &[u8]) -> usize
     ensures { λ r. ⌜ r ≡ length (shorn IndexParts.blank (now (s .entry))) ⌝ }
 {
     let mut e = s.len();

@@ -1,0 +1,101 @@
+-- The arms of `read_line`, over plain variables. Assumes nothing.
+use Prim.Native.Nat.{ℕ, _+_, _-_, _≤_}
+use mathlib.Core.Path.{_≡_, refl, sym, ap, _∙_}
+use mathlib.Core.Bool.{Bool, true, false}
+use mathlib.Core.Option.{Option, some, none}
+use mathlib.Core.List.{List, _++_}
+use native.Mathlib.Omega.{arith}
+use lib.ListN.{length, take, drop, length-drop}
+use lib.Seq.{take-all}
+use Rattle.grammar.specs.Index.{palette, size-word, palette-word, timestamp-word}
+use Rattle.grammar.specs.IndexParts.{letter-x}
+use Rattle.grammar.specs.Parts.{Part}
+use Rattle.idx_numbers.specs.Parts.{part, strip, moved, after, found, starts}
+use Rattle.idx_lines.specs.Answers.{lean, lineSays, LineRead, TokensRead, paletteAfter}
+use Rattle.idx_lines.specs.Lines.{halves, sizeOr, timestampAt, lineOf}
+use Rattle.idx_numbers.proofs.Leaves.{strip-is, never}
+use Rattle.idx_numbers.proofs.Steps.{found-is}
+use Rattle.idx_lines.specs.declared.Line.{Line}
+use Rattle.idx_lines.specs.declared.Line.the-variants as line
+
+after-yes : (w l : List ℕ) (at : ℕ) → starts w l ≡ true → after w (part at l) ≡ some (part (at + length w) (drop (length w) l))
+after-yes w l at e = ap (moved (at + length w)) (found-is w l e .0)
+
+after-no : (w l : List ℕ) (at : ℕ) → starts w l ≡ false → after w (part at l) ≡ none
+after-no w l at e = go (strip w l) e
+  where
+    go : (o : Option (List ℕ)) → found o ≡ false → moved (at + length w) o ≡ none
+    go none f = refl
+    go (some r) f = never (cc)
+
+pub word-in : (w l : List ℕ) (r : Bool) → r ≡ starts w l → r ≡ true → length w ≤ length l
+word-in w l r e f = found-is w l (sym e ∙ f) .1
+
+same-rest : (n : ℕ) (l : List ℕ) → take (length l - n) (drop n l) ≡ drop n l
+same-rest n l = take-all (length l - n) (drop n l) (rw (length-drop n l) (omega arith))
+
+-- of the three words, a line starts with one at most
+apart : (w v l : List ℕ) → ((r : List ℕ) → strip v (w ++ r) ≡ none) → starts w l ≡ true → starts v l ≡ false
+apart w v l h e = go (strip w l) refl e
+  where
+    go : (o : Option (List ℕ)) → strip w l ≡ o → found o ≡ true → starts v l ≡ false
+    go none q f = never (cc)
+    go (some r) q f = ap found (ap (strip v) (strip-is w l r q) ∙ h r)
+
+stamp-apart-size : (l : List ℕ) → starts timestamp-word l ≡ true → starts size-word l ≡ false
+unfolding strip
+stamp-apart-size l e = apart timestamp-word size-word l (λ r. refl) e
+
+stamp-apart-palette : (l : List ℕ) → starts timestamp-word l ≡ true → starts palette-word l ≡ false
+unfolding strip
+stamp-apart-palette l e = apart timestamp-word palette-word l (λ r. refl) e
+
+palette-apart-size : (l : List ℕ) → starts palette-word l ≡ true → starts size-word l ≡ false
+unfolding strip
+palette-apart-size l e = apart palette-word size-word l (λ r. refl) e
+
+size-apart-palette : (l : List ℕ) → starts size-word l ≡ true → starts palette-word l ≡ false
+unfolding strip
+size-apart-palette l e = apart size-word palette-word l (λ r. refl) e
+
+module _ (l was : List ℕ) where
+  same-palette : starts palette-word l ≡ false → was ≡ paletteAfter was l
+  unfolding paletteAfter
+  same-palette e = rw e
+
+  module _ (a : Bool) (ea : a ≡ starts timestamp-word l) where
+    pub line-timestamp : a ≡ true → (r : Line) → ((i : Part) (at : ℕ) → lineSays r ≡ lean (timestampAt i (part at (take (length l - 10) (drop 10 l))))) → LineRead l was r was
+    unfolding lineOf
+    line-timestamp f r e =
+        let y : starts timestamp-word l ≡ true = sym ea ∙ f in
+        record {
+          says = λ at. e (part at l) (at + 10) ∙ rw (same-rest 10 l, after-no size-word l at (stamp-apart-size l y), after-no palette-word l at (stamp-apart-palette l y), after-yes timestamp-word l at y);
+          palette = same-palette (stamp-apart-palette l y);
+        }
+
+    module _ (na : a ≡ false) (b : Bool) (eb : b ≡ starts palette-word l) where
+      pub line-palette : b ≡ true → (r : Line) (now : List ℕ) → TokensRead (take (length l - 8) (drop 8 l)) was r now → LineRead l was r now
+      unfolding lineOf paletteAfter
+      line-palette f r now e =
+          let y : starts palette-word l ≡ true = sym eb ∙ f in
+          record {
+            says = λ at. e .says (part at l) (at + 8) ∙ rw (same-rest 8 l, after-no size-word l at (palette-apart-size l y), after-yes palette-word l at y);
+            palette = e .palette ∙ rw (same-rest 8 l, y);
+          }
+
+      module _ (nb : b ≡ false) (c : Bool) (ec : c ≡ starts size-word l) where
+        pub line-size : c ≡ true → (r : Line) → ((i : Part) (at : ℕ) → lineSays r ≡ lean (sizeOr i (halves letter-x (part at (take (length l - 5) (drop 5 l)))))) → LineRead l was r was
+        unfolding lineOf
+        line-size f r e =
+            record {
+              says = λ at. e (part at l) (at + 5) ∙ rw (same-rest 5 l, after-yes size-word l at (sym ec ∙ f));
+              palette = same-palette (sym eb ∙ nb);
+            }
+
+        pub line-other : c ≡ false → LineRead l was line.Nothing was
+        unfolding lineOf
+        line-other f =
+            record {
+              says = λ at. rw (after-no size-word l at (sym ec ∙ f), after-no palette-word l at (sym eb ∙ nb), after-no timestamp-word l at (sym ea ∙ na));
+              palette = same-palette (sym eb ∙ nb);
+            }
