@@ -68,6 +68,12 @@ sizeFrom was (timestamp l ps fs n ∷ ls) = sizeFrom was ls
 abbrev pub sizeOf : List Said → Size
 sizeOf ls = sizeFrom (sized 0 0) ls
 
+-- cue n, numbered from 0
+unfoldable pub cueAt : List Cue → ℕ → Option Cue
+cueAt [] n = none
+cueAt (c ∷ cs) zero = some c
+cueAt (c ∷ cs) (suc n) = cueAt cs n
+
 -- z, at least 0 and at most the largest number of signed 64 bits
 abbrev pub clip : ℤ → ℕ
 clip (pos n) = min n (2 ^ 63 - 1)

@@ -1,19 +1,25 @@
 -- The arms of `read_line`, over plain variables. Assumes nothing.
 use Prim.Native.Nat.{ℕ, _+_, _-_, _≤_}
 use mathlib.Core.Path.{_≡_, refl, sym, ap, _∙_}
-use mathlib.Core.Bool.{Bool, true, false}
+use mathlib.Core.Bool.{Bool, true, false, cond}
 use mathlib.Core.Option.{Option, some, none}
-use mathlib.Core.List.{List, _++_}
+use mathlib.Core.List.{List, [], _∷_, _++_}
 use native.Mathlib.Omega.{arith}
 use lib.ListN.{length, take, drop, length-drop}
-use lib.Seq.{take-all}
-use Rattle.grammar.specs.Index.{palette, size-word, palette-word, timestamp-word}
+use lib.Seq.{take-all, sets}
+use Rattle.outcome.specs.Outcome.{ok, bad-token}
+use Rattle.grammar.specs.IndexNumbers.{Valued}
+use Rattle.grammar.specs.Index.{Said, size, palette, timestamp, size-word, palette-word, timestamp-word}
 use Rattle.grammar.specs.IndexParts.{letter-x}
 use Rattle.grammar.specs.Parts.{Part}
 use Rattle.idx_numbers.specs.Parts.{part, strip, moved, after, found, starts}
-use Rattle.idx_lines.specs.Answers.{lean, lineSays, LineRead, TokensRead, paletteAfter}
-use Rattle.idx_lines.specs.Lines.{halves, sizeOr, timestampAt, lineOf}
-use Rattle.idx_numbers.proofs.Leaves.{strip-is, never}
+use Rattle.idx_lines.proofs.Grammar.{given, SaysThis, line-is}
+use Rattle.idx_lines.proofs.Palettes.{colours-are}
+use Rattle.grammar.specs.IndexCues.{paletteFrom}
+use Rattle.outcome.proofs.Laws.{ok-injective}
+use Rattle.idx_lines.specs.Answers.{lean, lineSays, LineRead, TokensRead, colours, paletteAfter}
+use Rattle.idx_lines.specs.Lines.{halves, sizeOr, tokens, paletteAt, timestampAt, lineOf}
+use Rattle.idx_numbers.proofs.Leaves.{strip-on, strip-is, never}
 use Rattle.idx_numbers.proofs.Steps.{found-is}
 use Rattle.idx_lines.specs.declared.Line.{Line}
 use Rattle.idx_lines.specs.declared.Line.the-variants as line
@@ -99,3 +105,33 @@ module _ (l was : List ℕ) where
               says = λ at. rw (after-no size-word l at (sym ec ∙ f), after-no palette-word l at (sym eb ∙ nb), after-no timestamp-word l at (sym ea ∙ na));
               palette = same-palette (sym eb ∙ nb);
             }
+
+-- ---- the palette after a line is what the listed line gives
+abbrev pub oneOf : Option Said → List Said
+oneOf none = []
+oneOf (some l) = l ∷ []
+
+other-colours : (was : List ℕ) (o : Option Said) (i : Part) → starts palette-word (i .bytes) ≡ false → SaysThis i o → was ≡ paletteFrom was (oneOf o)
+unfolding paletteFrom
+other-colours was none i e h = refl
+other-colours was (some (size l w h)) i e k = refl
+other-colours was (some (timestamp l ps fs n)) i e k = refl
+other-colours was (some (palette l ts)) i e k =
+    let q : starts palette-word (i .bytes) ≡ true = ap (λ (x : List ℕ). found (strip palette-word x)) (k .2 .whole) ∙ ap found (strip-on palette-word (k .1 .bytes)) in
+    never (cc)
+
+pub palette-after : (l was : List ℕ) (at : ℕ) (o : Option Said) → lineOf (part at l) ≡ ok o → paletteAfter was l ≡ paletteFrom was (oneOf o)
+unfolding paletteAfter lineOf paletteFrom
+palette-after l was at o e = go (starts palette-word l) refl
+  where
+    coloured : (ts : List (Valued ℕ)) → tokens 16 (at + 8) (drop 8 l) ≡ some ts → ok (some (palette (part at l) ts)) ≡ ok o
+        → sets was 0 (colours 16 (drop 8 l)) ≡ paletteFrom was (oneOf o)
+    coloured ts q f = ap (sets was 0) (colours-are 16 (at + 8) (drop 8 l) ts q) ∙ ap (λ (x : Option Said). paletteFrom was (oneOf x)) (ok-injective f)
+
+    go : (t : Bool) → starts palette-word l ≡ t → cond t (sets was 0 (colours 16 (drop 8 l))) was ≡ paletteFrom was (oneOf o)
+    go true y =
+        let a : after size-word (part at l) ≡ none = after-no size-word l at (palette-apart-size l y) in
+        let b : after palette-word (part at l) ≡ some (part (at + 8) (drop 8 l)) = after-yes palette-word l at y in
+        let f : paletteAt (part at l) (part (at + 8) (drop 8 l)) ≡ ok o = rw (a, b) at e in
+        given bad-token (tokens 16 (at + 8) (drop 8 l)) _ f (λ ts q g. coloured ts q g)
+    go false y = other-colours was o (part at l) y (line-is (part at l) o e)
