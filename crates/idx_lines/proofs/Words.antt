@@ -1,18 +1,21 @@
 -- The arms of `read_line`, over plain variables. Assumes nothing.
-use Prim.Native.Nat.{ℕ, _+_, _-_, _≤_}
-use mathlib.Core.Path.{_≡_, refl, sym, ap, _∙_}
+use Rattle.idx_numbers.specs.Answers.{lowest}
+use borrow.Author.Tests.{eqb-true, eqb-false}
+use lib.Dec.{eqb}
+use Prim.Native.Nat.{ℕ, _+_, _-_, _≤_, _<_}
+use mathlib.Core.Path.{_≡_, refl, sym, ap, _∙_, ap₂}
 use mathlib.Core.Bool.{Bool, true, false, cond}
 use mathlib.Core.Option.{Option, some, none}
 use mathlib.Core.List.{List, [], _∷_, _++_}
 use native.Mathlib.Omega.{arith}
-use lib.ListN.{length, take, drop, length-drop}
-use lib.Seq.{take-all, sets}
+use lib.ListN.{length, take, drop, length-drop, getD, take-append-drop}
+use lib.Seq.{take-all, sets, drop-cons}
 use Rattle.outcome.specs.Outcome.{ok, bad-token}
 use Rattle.grammar.specs.IndexNumbers.{Valued}
-use Rattle.grammar.specs.Index.{Said, size, palette, timestamp, size-word, palette-word, timestamp-word}
+use Rattle.grammar.specs.Index.{Said, size, palette, timestamp, size-word, palette-word, timestamp-word, filepos-word}
 use Rattle.grammar.specs.IndexParts.{letter-x}
 use Rattle.grammar.specs.Parts.{Part}
-use Rattle.idx_numbers.specs.Parts.{part, strip, moved, after, found, starts}
+use Rattle.idx_numbers.specs.Parts.{part, strip, moved, after, found, starts, all}
 use Rattle.idx_lines.proofs.Grammar.{given, SaysThis, line-is}
 use Rattle.idx_lines.proofs.Palettes.{colours-are}
 use Rattle.grammar.specs.IndexCues.{paletteFrom}
@@ -20,7 +23,7 @@ use Rattle.outcome.proofs.Laws.{ok-injective}
 use Rattle.idx_lines.specs.Answers.{lean, lineSays, LineRead, TokensRead, colours, paletteAfter}
 use Rattle.idx_lines.specs.Lines.{halves, sizeOr, tokens, paletteAt, timestampAt, lineOf}
 use Rattle.idx_numbers.proofs.Leaves.{strip-on, strip-is, never}
-use Rattle.idx_numbers.proofs.Steps.{found-is}
+use Rattle.idx_numbers.proofs.Steps.{found-is, starts-yes, starts-no, small-bytes, word-front, word-whole}
 use Rattle.idx_lines.specs.declared.Line.{Line}
 use Rattle.idx_lines.specs.declared.Line.the-variants as line
 
@@ -135,3 +138,34 @@ palette-after l was at o e = go (starts palette-word l) refl
         let f : paletteAt (part at l) (part (at + 8) (drop 8 l)) ≡ ok o = rw (a, b) at e in
         given bad-token (tokens 16 (at + 8) (drop 8 l)) _ f (λ ts q g. coloured ts q g)
     go false y = other-colours was o (part at l) y (line-is (part at l) o e)
+
+-- ---- the words that are tested as numbers
+-- `timestamp:` by its first eight letters, and two more
+abbrev first-eight : List ℕ
+first-eight = 116 ∷ 105 ∷ 109 ∷ 101 ∷ 115 ∷ 116 ∷ 97 ∷ 109 ∷ []
+
+module _ (l : List ℕ) (fits : 10 ≤ length l) (low : (i : ℕ) → getD l i 0 < 256) (a : ℕ) (first : a ≡ lowest (take 8 (drop 0 l))) where
+  pub stamp-not : (k : ℕ) → k ≡ lowest first-eight → (a ≡ k → ⊥) → false ≡ starts timestamp-word l
+  stamp-not k q n = sym (starts-no timestamp-word l (λ r e. n (first ∙ ap (λ (x : List ℕ). lowest (take 8 x)) e ∙ sym q)))
+
+  pub stamp-ninth : (getD l 8 0 ≡ 112 → ⊥) → false ≡ starts timestamp-word l
+  stamp-ninth n = sym (starts-no timestamp-word l (λ r e. n (ap (λ (x : List ℕ). getD x 8 0) e)))
+
+  pub stamp-yes : (k : ℕ) → k ≡ lowest first-eight → a ≡ k → getD l 8 0 ≡ 112 → eqb (getD l 9 0) 58 ≡ starts timestamp-word l
+  unfolding all
+  stamp-yes k q is n = go (eqb (getD l 9 0) 58) refl
+    where
+      front-is : take 8 l ≡ first-eight
+      front-is = word-front first-eight l (omega arith) low (small-bytes first-eight refl) a first (is ∙ q)
+
+      rest-is : getD l 9 0 ≡ 58 → drop 8 l ≡ 112 ∷ 58 ∷ drop 10 l
+      rest-is e = drop-cons l 8 0 (omega arith) ∙ ap₂ (λ (x : ℕ) (y : List ℕ). x ∷ y) n (drop-cons l 9 0 (omega arith) ∙ ap (λ (x : ℕ). x ∷ drop 10 l) e)
+
+      go : (t : Bool) → eqb (getD l 9 0) 58 ≡ t → t ≡ starts timestamp-word l
+      go true e =
+          sym (starts-yes timestamp-word l (drop 10 l) (sym (take-append-drop 8 l) ∙ ap₂ (λ (x y : List ℕ). x ++ y) front-is (rest-is (eqb-true (getD l 9 0) 58 e))))
+      go false e = sym (starts-no timestamp-word l (λ r f. eqb-false (getD l 9 0) 58 e (ap (λ (x : List ℕ). getD x 9 0) f)))
+
+pub position-word : (l : List ℕ) → 8 ≤ length l → ((i : ℕ) → getD l i 0 < 256) → (a : ℕ) → a ≡ lowest (take 8 (drop 0 l)) → (k : ℕ) → k ≡ lowest filepos-word → eqb a k ≡ starts filepos-word l
+unfolding all
+position-word l fits low a is k q = word-whole filepos-word l fits low (small-bytes filepos-word refl) a is k q

@@ -4,12 +4,13 @@ use idx_numbers::Num;
 use idx_numbers::Number;
 use idx_numbers::Run;
 use idx_numbers::blanks;
-use idx_numbers::digit_run;
+use idx_numbers::decimal_run;
+use idx_numbers::eight_at;
 use idx_numbers::kept;
 use idx_numbers::leading;
+use idx_numbers::parse_decimal;
 use idx_numbers::parse_hex;
 use idx_numbers::parse_position;
-use idx_numbers::parse_unsigned;
 use idx_numbers::starts;
 use idx_numbers::time_of;
 use idx_numbers::trim;
@@ -23,13 +24,13 @@ use outcome::LONG_TIME;
 use outcome::NO_POSITION;
 use outcome::NO_TIME;
 ghost use mathlib.Core.Path.{_≡_};
-ghost use Prim.Native.Nat.{ℕ, _≤_, _<_, _*_, _^_};
+ghost use Prim.Native.Nat.{ℕ, _≤_, _<_, _+_, _*_, _^_};
 ghost use lib.IntN.{pos, negℤ};
 ghost use lib.ListN.{length, drop};
 ghost use lib.Seq.{sets};
 ghost use Rattle.grammar.specs.Parts;
 ghost use Rattle.grammar.specs.IndexParts.{colon, letter-x};
-ghost use Rattle.grammar.specs.Index.{filepos-word};
+ghost use Rattle.grammar.specs.Index.{timestamp-word, filepos-word};
 ghost use Rattle.idx_numbers.specs.Parts as NumberParts;
 ghost use Rattle.idx_numbers.specs.Parts.{part, split};
 ghost use Rattle.idx_lines.specs.Lines.{halves, sizeOr, timestampAt};
@@ -88,10 +89,10 @@ fn parse_size(s: &[u8]) -> Line
     }
     let left = trim(&s[..a]);
     let right = trim(&s[a + 1..]);
-    let Number::Is(w) = parse_unsigned(left, 10, 65535) else {
+    let Number::Is(w) = parse_decimal(left, 6553, 5) else {
         return Line::Refused(BAD_WIDTH);
     };
-    let Number::Is(h) = parse_unsigned(right, 10, 65535) else {
+    let Number::Is(h) = parse_decimal(right, 6553, 5) else {
         return Line::Refused(BAD_HEIGHT);
     };
     Line::Sized(w as u16, h as u16)
@@ -119,7 +120,7 @@ fn parse_palette(s: &[u8], palette: &mut [u8; 48]) -> Line
             return Line::Coloured(k > 0);
         }
         let e = g + leading(&s[g..], Kind::Token);
-        let Number::Is(v) = parse_hex(&s[g..e], 4294967295) else {
+        let Number::Is(v) = parse_hex(&s[g..e], 268435455) else {
             return Line::Refused(BAD_TOKEN);
         };
         store(palette, k, v);
@@ -149,11 +150,30 @@ fn noted(f: Found, is_position: bool, a: usize, b: usize) -> Found
     g
 }
 
-// Whether a trimmed part gives a position.
+// Whether a trimmed part gives a position: it starts with `filepos:`, here as a number.
 fn is_filepos(p: &[u8]) -> bool
     ensures { λ r. ⌜ r ≡ NumberParts.starts filepos-word (now (p .entry)) ⌝ }
 {
-    starts(p, b"filepos:")
+    if p.len() < 8 {
+        return false;
+    }
+    eight_at(p, 0) == 4211832605050169702
+}
+
+// Whether a line starts with `timestamp:`, here as the number of its first eight bytes and two more.
+fn is_timestamp(l: &[u8]) -> bool
+    ensures { λ r. ⌜ r ≡ NumberParts.starts timestamp-word (now (l .entry)) ⌝ }
+{
+    if l.len() < 10 {
+        return false;
+    }
+    if eight_at(l, 0) != 7881708861846808948 {
+        return false;
+    }
+    if l[8] != 112 {
+        return false;
+    }
+    l[9] == 58
 }
 
 // The time and the position among the parts between commas, in one pass.
@@ -182,12 +202,12 @@ fn find_parts(s: &[u8]) -> Found
     }
 }
 
-// The digits from place i on, if a colon or the end follows them.
-fn count_at(s: &[u8], i: usize, top: u64) -> Counted
-    requires { ⌜ i ≤ length (now s) ⌝ }
-    ensures { λ r. ⌜ CountedAt (now (s .entry)) i top r ⌝ }
+// The digits from place i on, if a colon or the end follows them: at most 2 to the power 63, or one less, by the last digit.
+fn count_at(s: &[u8], i: usize, last: u64) -> Counted
+    requires { ⌜ (i ≤ length (now s)) × (last < 10) ⌝ }
+    ensures { λ r. ⌜ CountedAt (now (s .entry)) i (922337203685477580 * 10 + last) r ⌝ }
 {
-    match digit_run(&s[i..], 10, top) {
+    match decimal_run(&s[i..], 922337203685477580, last) {
         Run::Over => Counted::Bad,
         Run::Is { count, value } => {
             if count == 0 {
@@ -226,7 +246,7 @@ fn field_at(s: &[u8], i: usize) -> Field
         return Field::Bad;
     }
     if s[i] == 45 {
-        let Counted::Is { value, end } = count_at(s, i + 1, 9223372036854775808) else {
+        let Counted::Is { value, end } = count_at(s, i + 1, 8) else {
             return Field::Bad;
         };
         return Field::Is {
@@ -235,7 +255,7 @@ fn field_at(s: &[u8], i: usize) -> Field
         };
     }
     if s[i] == 43 {
-        let Counted::Is { value, end } = count_at(s, i + 1, 9223372036854775807) else {
+        let Counted::Is { value, end } = count_at(s, i + 1, 7) else {
             return Field::Bad;
         };
         return Field::Is {
@@ -243,7 +263,7 @@ fn field_at(s: &[u8], i: usize) -> Field
             next: end + 1,
         };
     }
-    let Counted::Is { value, end } = count_at(s, i, 9223372036854775807) else {
+    let Counted::Is { value, end } = count_at(s, i, 7) else {
         return Field::Bad;
     };
     Field::Is {
@@ -312,7 +332,7 @@ fn parse_timestamp(s: &[u8]) -> Line
 pub fn read_line(l: &[u8], palette: &mut [u8; 48]) -> Line
     ensures { λ r. ⌜ LineRead (now (l .entry)) (now (palette .entry)) r (now (palette .exit)) ⌝ }
 {
-    if starts(l, b"timestamp:") {
+    if is_timestamp(l) {
         return parse_timestamp(&l[10..]);
     }
     if starts(l, b"palette:") {

@@ -1,12 +1,13 @@
 -- The turns of the number readers. Assumes nothing.
-use Prim.Native.Nat.{ℕ, suc, _+_, _-_, _*_, _/_, _%_, _≤_, _<_}
+use Prim.Native.Nat.{ℕ, suc, _+_, _-_, _*_, _≤_, _<_}
 use mathlib.Core.Path.{_≡_, refl, sym, ap, _∙_}
+use mathlib.Core.Logic.{_⊎_, inl, inr, ⊎-elim}
 use mathlib.Core.Bool.{Bool, true, false, cond, _&&_, _||_}
 use mathlib.Core.Option.{some, none}
 use mathlib.Core.List.{List, [], _∷_}
 use native.Mathlib.Omega.{arith}
 use native.Mathlib.Numerals.{add-one, add-two}
-use native.Mathlib.Nat.{le-mul-of-pos-right, div-add-mod', mod-lt, mul-le-mul-right, suc-mul, add-zero, zero-add}
+use native.Mathlib.Nat.{le-mul-of-pos-right, mul-le-mul-right, suc-mul, add-zero, zero-add}
 use lib.ListN.{length, getD, take, drop, drop-of-length-le, length-drop}
 use lib.Seq.{drop-cons, take-all}
 use lib.Dec.{leb, ltb, eqb}
@@ -20,6 +21,13 @@ use Rattle.idx_numbers.specs.declared.Run.{Run}
 use Rattle.idx_numbers.specs.declared.Run.the-variants.{Over as RunOver, Is as RunIs}
 use Rattle.idx_numbers.specs.declared.Number.{Number}
 use Rattle.idx_numbers.specs.declared.Number.the-variants.{Bad, Is}
+
+le-or-lt : (a b : ℕ) → (a ≤ b) ⊎ (b < a)
+le-or-lt a b = go (leb a b) refl
+  where
+    go : (t : Bool) → leb a b ≡ t → (a ≤ b) ⊎ (b < a)
+    go true e = inl (leb-true a b e)
+    go false e = inr (leb-false a b e)
 
 -- ---- a digit
 module _ (b : ℕ) where
@@ -43,6 +51,22 @@ module _ (b : ℕ) where
 
   pub digit-7 : 102 < b → 16 ≡ digit b
   digit-7 h = rw (le-leb 48 b (omega arith), lt-leb b 57 (omega arith), le-leb 97 b (omega arith), lt-leb b 102 h, le-leb 65 b (omega arith), lt-leb b 70 (omega arith))
+
+  -- the others are none of base 10
+  pub ten-low : b < 48 → 10 ≤ digit b
+  ten-low h = let e : digit b ≡ 16 = sym (digit-1 h) in rw e (omega arith)
+
+  pub ten-high : 57 < b → 10 ≤ digit b
+  ten-high h = ⊎-elim upper (λ l. let e : digit b ≡ 16 = sym (digit-3 h l) in rw e (omega arith)) (le-or-lt 65 b)
+    where
+      top : 97 ≤ b → 10 ≤ digit b
+      top l = ⊎-elim (λ k. let e : digit b ≡ b - 87 = sym (digit-6 l k) in rw e (omega arith)) (λ k. let e : digit b ≡ 16 = sym (digit-7 k) in rw e (omega arith)) (le-or-lt b 102)
+
+      middle : 70 < b → 10 ≤ digit b
+      middle l = ⊎-elim top (λ k. let e : digit b ≡ 16 = sym (digit-5 l k) in rw e (omega arith)) (le-or-lt 97 b)
+
+      upper : 65 ≤ b → 10 ≤ digit b
+      upper l = ⊎-elim (λ k. let e : digit b ≡ b - 55 = sym (digit-4 l k) in rw e (omega arith)) middle (le-or-lt b 70)
 
 -- ---- the digits at the front: what is left gives the whole, over base and bound
 module _ (base top : ℕ) (pos-base : 0 < base) where
@@ -87,44 +111,38 @@ module _ (base top : ℕ) (pos-base : 0 < base) where
   pub run-end : (s : List ℕ) (acc i : ℕ) (o : Run) → o ≡ runAfter base top i acc (drop i s) → acc ≤ top → length s ≤ i → RunIs i acc ≡ o
   run-end s acc i o e h l = sym (e ∙ rw (drop-of-length-le s l) (run-nil i acc h))
 
-  -- quotient and remainder tell whether there is room
-  module _ (acc d : ℕ) (small : d < base) where
-    whole-top : top / base * base + top % base ≡ top
-    whole-top = div-add-mod' top base
+-- quotient and remainder tell whether there is room
+module _ (base most last acc d : ℕ) (small : d < base) (less : last < base) where
+  pub room-yes : fitting acc d most last ≡ true → acc * base + d ≤ most * base + last
+  room-yes e = go (ltb acc most) refl (eqb acc most) refl (leb d last) refl e
+    where
+      go : (t : Bool) → ltb acc most ≡ t → (u : Bool) → eqb acc most ≡ u → (v : Bool) → leb d last ≡ v → t || (u && v) ≡ true → acc * base + d ≤ most * base + last
+      go true p u q v r e =
+          let m : suc acc * base ≤ most * base = mul-le-mul-right base (ltb-true acc most p) in
+          let n : suc acc * base ≡ acc * base + base = suc-mul acc base in
+          omega arith
+      go false p true q true r e =
+          let m : acc * base ≡ most * base = ap (λ (n : ℕ). n * base) (eqb-true acc most q) in
+          omega (arith, leb-true d last r)
+      go false p true q false r e = never (cc)
+      go false p false q v r e = never (cc)
 
-    last-less : top % base < base
-    last-less = mod-lt top pos-base
-
-    pub room-yes : fitting acc d (top / base) (top % base) ≡ true → acc * base + d ≤ top
-    room-yes e = go (ltb acc (top / base)) refl (eqb acc (top / base)) refl (leb d (top % base)) refl e
-      where
-        go : (t : Bool) → ltb acc (top / base) ≡ t → (u : Bool) → eqb acc (top / base) ≡ u → (v : Bool) → leb d (top % base) ≡ v → t || (u && v) ≡ true → acc * base + d ≤ top
-        go true p u q v r e =
-            let m : suc acc * base ≤ top / base * base = mul-le-mul-right base (ltb-true acc (top / base) p) in
-            let n : suc acc * base ≡ acc * base + base = suc-mul acc base in
-            omega (arith, whole-top)
-        go false p true q true r e =
-            let m : acc * base ≡ top / base * base = ap (λ (n : ℕ). n * base) (eqb-true acc (top / base) q) in
-            omega (arith, whole-top, leb-true d (top % base) r)
-        go false p true q false r e = never (cc)
-        go false p false q v r e = never (cc)
-
-    pub room-no : fitting acc d (top / base) (top % base) ≡ false → top < acc * base + d
-    room-no e = go (ltb acc (top / base)) refl (eqb acc (top / base)) refl (leb d (top % base)) refl e
-      where
-        go : (t : Bool) → ltb acc (top / base) ≡ t → (u : Bool) → eqb acc (top / base) ≡ u → (v : Bool) → leb d (top % base) ≡ v → t || (u && v) ≡ false → top < acc * base + d
-        go true p u q v r e = never (cc)
-        go false p true q true r e = never (cc)
-        go false p true q false r e =
-            let m : acc * base ≡ top / base * base = ap (λ (n : ℕ). n * base) (eqb-true acc (top / base) q) in
-            omega (arith, whole-top, leb-false d (top % base) r)
-        go false p false q v r e =
-            let a : top / base ≤ acc = ltb-false acc (top / base) p in
-            let b : (acc ≡ top / base → ⊥) = eqb-false acc (top / base) q in
-            let c : suc (top / base) ≤ acc = omega arith in
-            let m : suc (top / base) * base ≤ acc * base = mul-le-mul-right base c in
-            let n : suc (top / base) * base ≡ top / base * base + base = suc-mul (top / base) base in
-            omega (arith, whole-top, last-less)
+  pub room-no : fitting acc d most last ≡ false → most * base + last < acc * base + d
+  room-no e = go (ltb acc most) refl (eqb acc most) refl (leb d last) refl e
+    where
+      go : (t : Bool) → ltb acc most ≡ t → (u : Bool) → eqb acc most ≡ u → (v : Bool) → leb d last ≡ v → t || (u && v) ≡ false → most * base + last < acc * base + d
+      go true p u q v r e = never (cc)
+      go false p true q true r e = never (cc)
+      go false p true q false r e =
+          let m : acc * base ≡ most * base = ap (λ (n : ℕ). n * base) (eqb-true acc most q) in
+          omega (arith, leb-false d last r)
+      go false p false q v r e =
+          let a : most ≤ acc = ltb-false acc most p in
+          let b : (acc ≡ most → ⊥) = eqb-false acc most q in
+          let c : suc most ≤ acc = omega arith in
+          let m : suc most * base ≤ acc * base = mul-le-mul-right base c in
+          let n : suc most * base ≡ most * base + base = suc-mul most base in
+          omega arith
 
 -- ---- digits and nothing else
 module _ (acc d most last : ℕ) where
@@ -308,3 +326,18 @@ module _ (s : List ℕ) (n : Number) (read : valueIn n ≡ hex top-position s) w
 
   pub position-dec : (m : Number) → n ≡ Bad → valueIn m ≡ unsigned 10 top-position s → valueIn m ≡ positionOf s
   position-dec m e f = rw (← read, e) f
+
+-- ---- a run that is the whole part
+module _ (r : Run) (n base top : ℕ) (s : List ℕ) (pos-base : 0 < base) (read : r ≡ runOf base top s) (long : n ≡ length s) where
+  pub whole-over : r ≡ RunOver → none ≡ digits base top s
+  whole-over e = digits-over base top pos-base s (run-past-top base top s r read e)
+
+  module _ (k v : ℕ) (e : r ≡ RunIs k v) where
+    pub whole-none : k ≡ 0 → none ≡ digits base top s
+    whole-none z = digits-none base top pos-base s (sym (run-says base top s r read k v e .count) ∙ z)
+
+    pub whole-short : k < n → none ≡ digits base top s
+    whole-short h = digits-short base top pos-base s (omega (arith, run-says base top s r read k v e .count))
+
+    pub whole-good : (k ≡ 0 → ⊥) → n ≤ k → some v ≡ digits base top s
+    whole-good z h = digits-whole base top pos-base s k v (run-says base top s r read k v e) z (omega arith)

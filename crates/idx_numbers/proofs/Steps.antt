@@ -1,23 +1,23 @@
 -- One turn over the parts between separators, and words at the front, over plain variables. Assumes nothing.
-use Prim.Native.Nat.{ℕ, suc, _+_, _-_, _≤_, _<_}
-use mathlib.Core.Path.{_≡_, refl, sym, ap, _∙_}
-use mathlib.Core.Bool.{Bool, true, false, not}
-use mathlib.Core.Logic.{inl, inr}
+use Prim.Native.Nat.{ℕ, suc, _+_, _-_, _≤_, _<_, zero, _*_}
+use mathlib.Core.Path.{_≡_, refl, sym, ap, _∙_, ap₂}
+use mathlib.Core.Bool.{Bool, true, false, not, _&&_}
+use mathlib.Core.Logic.{inl, inr, _⊎_, ⊎-elim}
 use mathlib.Core.Option.{Option, some, none}
 use mathlib.Core.List.{List, [], _∷_, _++_, append-nil}
 use native.Mathlib.Omega.{arith}
 use native.Mathlib.Numerals.{add-one}
-use lib.ListN.{length, getD, take, drop, drop-of-length-le, length-drop, length-append}
-use lib.Seq.{drop-cons, take-all, drop-drop, drop-append-seam}
-use lib.Dec.{eqb}
-use borrow.Author.Tests.{eqb-true, eq-eqb, ne-eqb}
+use lib.ListN.{length, getD, take, drop, drop-of-length-le, length-drop, length-append, take-append-drop, List·getD-eq-default}
+use lib.Seq.{drop-cons, take-all, drop-drop, drop-append-seam, getD-take, length-take-le, take-append-seam}
+use lib.Dec.{eqb, ltb, leb}
+use borrow.Author.Tests.{eqb-true, eq-eqb, ne-eqb, eqb-false, ltb-true, leb-true, leb-false}
 use Rattle.grammar.specs.IndexNumbers.{Unsigned}
 use Rattle.grammar.specs.IndexParts.{unlike, Span, Parted}
 use Rattle.grammar.specs.Parts.{Part}
-use Rattle.idx_numbers.specs.Answers.{valueIn}
+use Rattle.idx_numbers.specs.Answers.{valueIn, lowest}
 use Rattle.idx_numbers.specs.Numbers.{unsigned}
-use Rattle.idx_numbers.specs.Parts.{part, front, rest, split, strip, found, starts}
-use Rattle.idx_numbers.proofs.Leaves.{never, span-is, split-is, split-one, strip-is, unsigned-is}
+use Rattle.idx_numbers.specs.Parts.{part, front, rest, split, strip, found, starts, all}
+use Rattle.idx_numbers.proofs.Leaves.{never, span-is, split-is, split-one, strip-is, unsigned-is, strip-on, none-strip}
 use Rattle.idx_numbers.proofs.Turns.{drop-front, front-le, take-front}
 use Rattle.idx_numbers.specs.declared.Number.{Number}
 use Rattle.idx_numbers.specs.declared.Number.the-variants.{Is}
@@ -115,3 +115,94 @@ value-le base top s n v e f = go (unsigned-is base top s v (sym e ∙ ap valueIn
     go : Unsigned base top s v → v ≤ top
     go (inl h) = h .within
     go (inr h) = h .2 .within
+
+-- ---- a word by its number
+le-or-lt : (a b : ℕ) → (a ≤ b) ⊎ (b < a)
+le-or-lt a b = go (leb a b) refl
+  where
+    go : (t : Bool) → leb a b ≡ t → (a ≤ b) ⊎ (b < a)
+    go true e = inl (leb-true a b e)
+    go false e = inr (leb-false a b e)
+
+peel : (x y k m : ℕ) → x < 256 → k < 256 → x + 256 * y ≡ k + 256 * m → (x ≡ k) × (y ≡ m)
+peel x y k m h l e = (omega arith, omega arith)
+
+pub lowest-one : (s t : List ℕ) → length s ≡ length t → ((i : ℕ) → getD s i 0 < 256) → ((i : ℕ) → getD t i 0 < 256) → lowest s ≡ lowest t → s ≡ t
+unfolding lowest
+lowest-one [] [] n h l e = refl
+lowest-one [] (b ∷ t) n h l e = absurd (omega arith)
+lowest-one (a ∷ s) [] n h l e = absurd (omega arith)
+lowest-one (a ∷ s) (b ∷ t) n h l e =
+    let p = peel a (lowest s) b (lowest t) (h 0) (l 0) e in
+    ap₂ (λ (x : ℕ) (y : List ℕ). x ∷ y) (p .0) (lowest-one s t (omega arith) (λ i. h (suc i)) (λ i. l (suc i)) (p .1))
+
+pub starts-yes : (w l r : List ℕ) → l ≡ w ++ r → starts w l ≡ true
+starts-yes w l r e = ap found (ap (strip w) e ∙ strip-on w r)
+
+pub starts-no : (w l : List ℕ) → ((r : List ℕ) → l ≡ w ++ r → ⊥) → starts w l ≡ false
+starts-no w l h = ap found (none-strip w l (λ s. h (s .0) (s .1)))
+
+pub word-short : (w l : List ℕ) → length l < length w → false ≡ starts w l
+word-short w l h = sym (starts-no w l (λ r e. omega (arith, ap length e, length-append w r)))
+
+-- bytes that are written out
+pub small-bytes : (w : List ℕ) → all (λ b. ltb b 256) w ≡ true → (i : ℕ) → getD w i 0 < 256
+unfolding all
+small-bytes [] e i = omega arith
+small-bytes (b ∷ w) e i = go (small-bytes w) (ltb b 256) refl e i
+  where
+    go : (all (λ x. ltb x 256) w ≡ true → (k : ℕ) → getD w k 0 < 256) → (t : Bool) → ltb b 256 ≡ t → t && all (λ x. ltb x 256) w ≡ true → (k : ℕ) → getD (b ∷ w) k 0 < 256
+    go ih true q f zero = ltb-true b 256 q
+    go ih true q f (suc k) = ih f k
+    go ih false q f k = never (cc)
+
+-- the front of l is w where its number is that of w, and only there
+module _ (w l : List ℕ) (fits : length w ≤ length l) (low : (i : ℕ) → getD l i 0 < 256) (low-w : (i : ℕ) → getD w i 0 < 256) (n : ℕ) (is : n ≡ lowest (take (length w) l)) where
+  low-front : (i : ℕ) → getD (take (length w) l) i 0 < 256
+  low-front i = ⊎-elim past inside (le-or-lt (length (take (length w) l)) i)
+    where
+      past : length (take (length w) l) ≤ i → getD (take (length w) l) i 0 < 256
+      past h = let e : getD (take (length w) l) i 0 ≡ 0 = List·getD-eq-default (take (length w) l) 0 h in rw e (omega arith)
+
+      inside : i < length (take (length w) l) → getD (take (length w) l) i 0 < 256
+      inside h =
+          let k : i < length w = omega (arith, length-take-le (length w) l fits) in
+          let e : getD (take (length w) l) i 0 ≡ getD l i 0 = getD-take (length w) l i 0 k in
+          rw e (low i)
+
+  pub word-front : n ≡ lowest w → take (length w) l ≡ w
+  word-front e = lowest-one (take (length w) l) w (length-take-le (length w) l fits) low-front low-w (sym is ∙ e)
+
+  pub word-other : (n ≡ lowest w → ⊥) → (r : List ℕ) → l ≡ w ++ r → ⊥
+  word-other h r e = h (is ∙ ap lowest (ap (take (length w)) e ∙ take-append-seam w r))
+
+  pub word-whole : (k : ℕ) → k ≡ lowest w → eqb n k ≡ starts w l
+  word-whole k q = go (eqb n k) refl
+    where
+      go : (t : Bool) → eqb n k ≡ t → t ≡ starts w l
+      go true e = sym (starts-yes w l (drop (length w) l) (sym (take-append-drop (length w) l) ∙ ap (λ (x : List ℕ). x ++ drop (length w) l) (word-front (eqb-true n k e ∙ q))))
+      go false e = sym (starts-no w l (word-other (λ f. eqb-false n k e (f ∙ sym q))))
+
+-- ---- eight bytes in turn
+module _ (s : List ℕ) (i : ℕ) where
+  low-step : (k n : ℕ) → i + k < length s → lowest (take (suc n) (drop (i + k) s)) ≡ getD s (i + k) 0 + 256 * lowest (take n (drop (i + (k + 1)) s))
+  unfolding lowest
+  low-step k n h =
+      let z : suc (i + k) ≡ i + (k + 1) = omega arith in
+      rw (drop-cons s (i + k) 0 h) (ap (λ (m : ℕ). getD s (i + k) 0 + 256 * lowest (take n (drop m s))) z)
+
+  pub eight-is : i + 8 ≤ length s → (r : ℕ)
+      → r ≡ getD s i 0 + 256 * (getD s (i + 1) 0 + 256 * (getD s (i + 2) 0 + 256 * (getD s (i + 3) 0 + 256 * (getD s (i + 4) 0 + 256 * (getD s (i + 5) 0 + 256 * (getD s (i + 6) 0 + 256 * getD s (i + 7) 0))))))
+      → r ≡ lowest (take 8 (drop i s))
+  unfolding lowest
+  eight-is h r e =
+      let z : i + 0 ≡ i = omega arith in
+      let a₀ : lowest (take 8 (drop i s)) ≡ getD s i 0 + 256 * lowest (take 7 (drop (i + 1) s)) = rw z at (low-step 0 7 (omega arith)) in
+      let a₁ = low-step 1 6 (omega arith) in
+      let a₂ = low-step 2 5 (omega arith) in
+      let a₃ = low-step 3 4 (omega arith) in
+      let a₄ = low-step 4 3 (omega arith) in
+      let a₅ = low-step 5 2 (omega arith) in
+      let a₆ = low-step 6 1 (omega arith) in
+      let a₇ = low-step 7 0 (omega arith) in
+      omega (arith, a₀, a₁, a₂, a₃, a₄, a₅, a₆, a₇)

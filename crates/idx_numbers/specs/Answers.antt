@@ -1,8 +1,8 @@
 -- What each case of the code's types stands for. Assumes nothing: these are definitions.
-use Prim.Native.Nat.{ℕ, _+_}
+use Prim.Native.Nat.{ℕ, _+_, _*_, _^_, _<_}
 use mathlib.Core.Bool.{Bool, cond, _&&_, _||_}
 use mathlib.Core.Option.{Option, some, none}
-use mathlib.Core.List.{List}
+use mathlib.Core.List.{List, [], _∷_}
 use lib.Dec.{leb, ltb, eqb}
 use lib.ListN.{length}
 use Rattle.grammar.specs.IndexParts.{parting, tokenByte}
@@ -23,7 +23,13 @@ abbrev pub valueIn : Number → Option ℕ
 valueIn Bad = none
 valueIn (Is v) = some v
 
--- acc before a further digit d leaves room for it: most and last are a bound's quotient and remainder by the base
+-- a bound that 64 bits hold, by its quotient and its remainder by the base
+pub record Bound (base most last : ℕ) : Type 0 where
+  pub some-base : 0 < base
+  pub less : last < base
+  pub held : most * base + last < 2 ^ 64
+
+-- acc leaves room for a further digit d within that bound
 abbrev pub fitting : ℕ → ℕ → ℕ → ℕ → Bool
 fitting acc d most last = ltb acc most || (eqb acc most && leb d last)
 
@@ -36,3 +42,8 @@ runAfter base top n acc s =
 
 abbrev pub runOf : ℕ → ℕ → List ℕ → Run
 runOf base top s = runAfter base top 0 0 s
+
+-- bytes as one number, the first one lowest
+unfoldable pub lowest : List ℕ → ℕ
+lowest [] = 0
+lowest (b ∷ s) = b + 256 * lowest s

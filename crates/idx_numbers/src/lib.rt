@@ -2,7 +2,8 @@
 // hand back a part of it, a length or a number.
 ghost use mathlib.Core.Path.{_≡_};
 ghost use mathlib.Core.Bool.{not};
-ghost use Prim.Native.Nat.{ℕ, _≤_, _<_, _+_};
+ghost use mathlib.Core.List.{List};
+ghost use Prim.Native.Nat.{ℕ, _≤_, _<_, _+_, _*_, _^_};
 ghost use lib.ListN.{length, take, drop};
 ghost use lib.IntN.{pos, _+ℤ_, _*ℤ_};
 ghost use Rattle.grammar.specs.IndexParts;
@@ -12,7 +13,7 @@ ghost use Rattle.idx_numbers.specs.Parts;
 ghost use Rattle.idx_numbers.specs.Parts.{front, shorn, trimmed, all};
 ghost use Rattle.idx_numbers.specs.Numbers.{digits, unsigned, bare, hex, positionOf};
 ghost use Rattle.idx_numbers.specs.Times.{checked, microsOf};
-ghost use Rattle.idx_numbers.specs.Answers.{test, valueIn, fitting, runOf};
+ghost use Rattle.idx_numbers.specs.Answers.{test, valueIn, fitting, Bound, runOf, lowest};
 
 // What a byte may be in a palette line: between tokens, or in one.
 pub enum Kind {
@@ -167,6 +168,33 @@ pub fn leading(s: &[u8], k: Kind) -> usize
     i
 }
 
+// Eight bytes as one number, the first one lowest.
+fn eight_of(a: u8, b: u8, c: u8, d: u8, e: u8, f: u8, g: u8, h: u8) -> u64
+    ensures { λ r. ⌜ r ≡ a + 256 * (b + 256 * (c + 256 * (d + 256 * (e + 256 * (f + 256 * (g + 256 * h)))))) ⌝ }
+{
+    let x = g as u64 + 256 * h as u64;
+    let y = e as u64 + 256 * (f as u64 + 256 * x);
+    let z = c as u64 + 256 * (d as u64 + 256 * y);
+    a as u64 + 256 * (b as u64 + 256 * z)
+}
+
+// The eight bytes from place i on as one number: a word of eight letters is one test.
+pub fn eight_at(s: &[u8], i: usize) -> u64
+    requires { ⌜ i + 8 ≤ length (now s) ⌝ }
+    ensures { λ r. ⌜ r ≡ lowest (take 8 (drop i (now (s .entry)))) ⌝ }
+{
+    eight_of(
+        s[i],
+        s[i + 1],
+        s[i + 2],
+        s[i + 3],
+        s[i + 4],
+        s[i + 5],
+        s[i + 6],
+        s[i + 7],
+    )
+}
+
 // Whether s starts with w.
 pub fn starts(s: &[u8], w: &[u8]) -> bool
     ensures { λ r. ⌜ r ≡ Parts.starts (now (w .entry)) (now (s .entry)) ⌝ }
@@ -221,27 +249,33 @@ fn fits(acc: u64, d: u64, most: u64, last: u64) -> bool
     d <= last
 }
 
-// The digits of the base at the front of s, and their number, at most top.
-pub fn digit_run(s: &[u8], base: u64, top: u64) -> Run
-    requires { ⌜ 0 < base ⌝ }
-    ensures { λ r. ⌜ r ≡ runOf base top (now (s .entry)) ⌝ }
+// The decimal digits at the front of s, and their number, if that is within the bound. A bound is given by its quotient and its
+// remainder by the base.
+pub fn decimal_run(s: &[u8], most: u64, last: u64) -> Run
+    requires { ⌜ Bound 10 most last ⌝ }
+    ensures { λ r. ⌜ r ≡ runOf 10 (most * 10 + last) (now (s .entry)) ⌝ }
 {
-    let most = top / base;
-    let last = top % base;
     let mut acc: u64 = 0;
     let mut i = 0;
     while i < s.len() {
-        let d = digit(s[i]);
-        if d >= base {
+        let b = s[i];
+        if b < 48 {
             return Run::Is {
                 count: i,
                 value: acc,
             };
         }
+        if b > 57 {
+            return Run::Is {
+                count: i,
+                value: acc,
+            };
+        }
+        let d = b as u64 - 48;
         if !fits(acc, d, most, last) {
             return Run::Over;
         }
-        acc = acc * base + d;
+        acc = acc * 10 + d;
         i += 1;
     }
     Run::Is {
@@ -250,18 +284,44 @@ pub fn digit_run(s: &[u8], base: u64, top: u64) -> Run
     }
 }
 
-// One or more digits of the base and nothing else, at most top.
-fn parse_digits(s: &[u8], base: u64, top: u64) -> Number
-    requires { ⌜ 0 < base ⌝ }
-    ensures { λ r. ⌜ valueIn r ≡ digits base top (now (s .entry)) ⌝ }
+// The hexadecimal ones, whose bound is 16 * most + 15.
+fn hex_run(s: &[u8], most: u64) -> Run
+    requires { ⌜ Bound 16 most 15 ⌝ }
+    ensures { λ r. ⌜ r ≡ runOf 16 (most * 16 + 15) (now (s .entry)) ⌝ }
 {
-    match digit_run(s, base, top) {
+    let mut acc: u64 = 0;
+    let mut i = 0;
+    while i < s.len() {
+        let d = digit(s[i]);
+        if d >= 16 {
+            return Run::Is {
+                count: i,
+                value: acc,
+            };
+        }
+        if acc > most {
+            return Run::Over;
+        }
+        acc = acc * 16 + d;
+        i += 1;
+    }
+    Run::Is {
+        count: i,
+        value: acc,
+    }
+}
+
+// The number of a run that is all of n bytes, one at least.
+fn whole(r: Run, n: usize) -> Number
+    ensures { λ x. ⌜ ((base top : ℕ) (s : List ℕ) → 0 < base → r ≡ runOf base top s → n ≡ length s → valueIn x ≡ digits base top s) ⌝ }
+{
+    match r {
         Run::Over => Number::Bad,
         Run::Is { count, value } => {
             if count == 0 {
                 return Number::Bad;
             }
-            if count < s.len() {
+            if count < n {
                 return Number::Bad;
             }
             Number::Is(value)
@@ -269,18 +329,33 @@ fn parse_digits(s: &[u8], base: u64, top: u64) -> Number
     }
 }
 
-// A `+` or nothing, then digits.
-pub fn parse_unsigned(s: &[u8], base: u64, top: u64) -> Number
-    requires { ⌜ 0 < base ⌝ }
-    ensures { λ r. ⌜ valueIn r ≡ unsigned base top (now (s .entry)) ⌝ }
+// A `+` or nothing, then decimal digits.
+pub fn parse_decimal(s: &[u8], most: u64, last: u64) -> Number
+    requires { ⌜ Bound 10 most last ⌝ }
+    ensures { λ r. ⌜ valueIn r ≡ unsigned 10 (most * 10 + last) (now (s .entry)) ⌝ }
 {
     if s.len() == 0 {
         return Number::Bad;
     }
     if s[0] == 43 {
-        return parse_digits(&s[1..], base, top);
+        let t = &s[1..];
+        return whole(decimal_run(t, most, last), t.len());
     }
-    parse_digits(s, base, top)
+    whole(decimal_run(s, most, last), s.len())
+}
+
+fn parse_sixteen(s: &[u8], most: u64) -> Number
+    requires { ⌜ Bound 16 most 15 ⌝ }
+    ensures { λ r. ⌜ valueIn r ≡ unsigned 16 (most * 16 + 15) (now (s .entry)) ⌝ }
+{
+    if s.len() == 0 {
+        return Number::Bad;
+    }
+    if s[0] == 43 {
+        let t = &s[1..];
+        return whole(hex_run(t, most), t.len());
+    }
+    whole(hex_run(s, most), s.len())
 }
 
 // Without every leading `0x`.
@@ -301,24 +376,22 @@ fn strip_0x<'a>(s: &'a [u8]) -> &'a [u8]
     &s[i..]
 }
 
-// Hexadecimal, after every leading `0x`.
-pub fn parse_hex(s: &[u8], top: u64) -> Number
-    ensures { λ r. ⌜ valueIn r ≡ hex top (now (s .entry)) ⌝ }
+// Hexadecimal, after every leading `0x`, at most 16 * most + 15.
+pub fn parse_hex(s: &[u8], most: u64) -> Number
+    requires { ⌜ Bound 16 most 15 ⌝ }
+    ensures { λ r. ⌜ valueIn r ≡ hex (most * 16 + 15) (now (s .entry)) ⌝ }
 {
     let h = strip_0x(s);
-    parse_unsigned(h, 16, top)
+    parse_sixteen(h, most)
 }
 
-// The largest position that a line may say.
-const TOP_POSITION: u64 = 18446744073709551615;
-
-// Hexadecimal; only if that fails, decimal.
+// Hexadecimal; only if that fails, decimal. Both bounds are the largest number of 64 bits.
 pub fn parse_position(s: &[u8]) -> Number
     ensures { λ r. ⌜ valueIn r ≡ positionOf (now (s .entry)) ⌝ }
 {
-    match parse_hex(s, TOP_POSITION) {
+    match parse_hex(s, 1152921504606846975) {
         Number::Is(v) => Number::Is(v),
-        Number::Bad => parse_unsigned(s, 10, TOP_POSITION),
+        Number::Bad => parse_decimal(s, 1844674407370955161, 5),
     }
 }
 

@@ -1,21 +1,22 @@
 -- `idx_lines::count_at` meets its contract: by what the run says, and what follows it. Assumes nothing.
 use borrow.Author.Needs.{needs}
 use native.Mathlib.Omega.{arith}
+use Prim.Native.Nat.{_+_, _*_}
 use Rattle.idx_lines.proofs.Fields.{count-over, count-none, count-end, count-colon, count-other, run-inside}
 use Rattle.idx_lines.proofs.count_at.Statement.{statement}
 use Rattle.idx_lines.proofs.count_at.Tie as tie
 
-sub-digit-run : tie.Need-sub-digit-run
-sub-digit-run c = search needs
+sub-decimal-run : tie.Need-sub-decimal-run
+sub-decimal-run c = c .before .pre .0
 
-part-digit-run-start : tie.Need-part-digit-run-start
-part-digit-run-start c = search needs
+part-decimal-run-start : tie.Need-part-decimal-run-start
+part-decimal-run-start c = c .before .pre .0
 
-part-digit-run-end : tie.Need-part-digit-run-end
-part-digit-run-end c = search needs
+part-decimal-run-end : tie.Need-part-decimal-run-end
+part-decimal-run-end c = search needs
 
-digit-run-requires : tie.Need-digit-run-requires
-digit-run-requires c κs = search needs
+decimal-run-requires : tie.Need-decimal-run-requires
+decimal-run-requires c κs = record { some-base = omega arith; less = c .before .before .pre .1; held = omega (arith, c .before .before .pre .1) }
 
 enum-told : tie.Need-enum-told
 enum-told c = search needs
@@ -24,34 +25,34 @@ enum-known-count : tie.Need-enum-known-count
 enum-known-count c = search needs
 
 returns : tie.Need-returns
-returns c = count-none (c .before .before .before .before .before .before .before .args .s .now) (c .before .before .before .before .before .before .before .args .i) (c .before .before .before .before .before .before .before .args .top) (c .before .before .before .before .before .before .before .pre) _ (c .before .before .before .before .digit-run .ensures) _ _ (c .before .before .count .given .1) (c .if1 .taken)
+returns c = count-none (c .before .before .before .before .before .before .before .args .s .now) (c .before .before .before .before .before .before .before .args .i) (922337203685477580 * 10 + c .before .before .before .before .before .before .before .args .last) (c .before .before .before .before .before .before .before .pre .0) _ (c .before .before .before .before .decimal-run .ensures) _ _ (c .before .before .count .given .1) (c .if1 .taken)
 
 add-e : tie.Need-add-e
-add-e c = omega (arith, run-inside (c .before .before .before .before .before .before .before .args .s .now) (c .before .before .before .before .before .before .before .args .i) (c .before .before .before .before .before .before .before .args .top) (c .before .before .before .before .before .before .before .pre) _ (c .before .before .before .before .digit-run .ensures) _ _ (c .before .before .count .given .1))
+add-e c = omega (arith, run-inside (c .before .before .before .before .before .before .before .args .s .now) (c .before .before .before .before .before .before .before .args .i) (922337203685477580 * 10 + c .before .before .before .before .before .before .before .args .last) (c .before .before .before .before .before .before .before .pre .0) _ (c .before .before .before .before .decimal-run .ensures) _ _ (c .before .before .count .given .1))
 
 returns-2 : tie.Need-returns-2
-returns-2 c = count-end (c .before .before .before .before .before .before .before .before .args .s .now) (c .before .before .before .before .before .before .before .before .args .i) (c .before .before .before .before .before .before .before .before .args .top) (c .before .before .before .before .before .before .before .before .pre) _ (c .before .before .before .before .before .digit-run .ensures) _ _ (c .before .before .before .count .given .1) (c .before .if1 .left) (c .if2 .taken)
+returns-2 c = count-end (c .before .before .before .before .before .before .before .before .args .s .now) (c .before .before .before .before .before .before .before .before .args .i) (922337203685477580 * 10 + c .before .before .before .before .before .before .before .before .args .last) (c .before .before .before .before .before .before .before .before .pre .0) _ (c .before .before .before .before .before .decimal-run .ensures) _ _ (c .before .before .before .count .given .1) (c .before .if1 .left) (c .if2 .taken)
 
 shared-slice-read-if3 : tie.Need-shared-slice-read-if3
 shared-slice-read-if3 c = search needs
 
 returns-3 : tie.Need-returns-3
-returns-3 c = count-other (c .before .before .before .before .before .before .before .before .before .before .args .s .now) (c .before .before .before .before .before .before .before .before .before .before .args .i) (c .before .before .before .before .before .before .before .before .before .before .args .top) (c .before .before .before .before .before .before .before .before .before .before .pre) _ (c .before .before .before .before .before .before .before .digit-run .ensures) _ _ (c .before .before .before .before .before .count .given .1) (c .before .before .if2 .left) (c .if3 .taken)
+returns-3 c = count-other (c .before .before .before .before .before .before .before .before .before .before .args .s .now) (c .before .before .before .before .before .before .before .before .before .before .args .i) (922337203685477580 * 10 + c .before .before .before .before .before .before .before .before .before .before .args .last) (c .before .before .before .before .before .before .before .before .before .before .pre .0) _ (c .before .before .before .before .before .before .before .decimal-run .ensures) _ _ (c .before .before .before .before .before .count .given .1) (c .before .before .if2 .left) (c .if3 .taken)
 
 returns-4 : tie.Need-returns-4
-returns-4 c = count-over (c .before .before .before .before .before .args .s .now) (c .before .before .before .before .before .args .i) (c .before .before .before .before .before .args .top) (c .before .before .before .before .before .pre) _ (c .before .before .digit-run .ensures) (c .enum-told .given .1)
+returns-4 c = count-over (c .before .before .before .before .before .args .s .now) (c .before .before .before .before .before .args .i) (922337203685477580 * 10 + c .before .before .before .before .before .args .last) (c .before .before .before .before .before .pre .0) _ (c .before .before .decimal-run .ensures) (c .enum-told .given .1)
 
 returns-5 : tie.Need-returns-5
-returns-5 c = count-colon (c .before .before .before .before .before .before .before .before .before .before .args .s .now) (c .before .before .before .before .before .before .before .before .before .before .args .i) (c .before .before .before .before .before .before .before .before .before .before .args .top) (c .before .before .before .before .before .before .before .before .before .before .pre) _ (c .before .before .before .before .before .before .before .digit-run .ensures) _ _ (c .before .before .before .before .before .count .given .1) (c .before .before .before .if1 .left) (c .if3 .left)
+returns-5 c = count-colon (c .before .before .before .before .before .before .before .before .before .before .args .s .now) (c .before .before .before .before .before .before .before .before .before .before .args .i) (922337203685477580 * 10 + c .before .before .before .before .before .before .before .before .before .before .args .last) (c .before .before .before .before .before .before .before .before .before .before .pre .0) _ (c .before .before .before .before .before .before .before .decimal-run .ensures) _ _ (c .before .before .before .before .before .count .given .1) (c .before .before .before .if1 .left) (c .if3 .left)
 
 pub count-at-spec : {M : Type 1} → statement M
 count-at-spec =
     tie.close
     (tie.spec
-    sub-digit-run
-    part-digit-run-start
-    part-digit-run-end
-    digit-run-requires
+    sub-decimal-run
+    part-decimal-run-start
+    part-decimal-run-end
+    decimal-run-requires
     enum-told
     enum-known-count
     returns

@@ -19,7 +19,7 @@ add-count-at : tie.Need-add-count-at
 add-count-at c = omega arith
 
 count-at-requires : tie.Need-count-at-requires
-count-at-requires c κs = omega arith
+count-at-requires c κs = (omega arith, omega arith)
 
 enum-known-value : tie.Need-enum-known-value
 enum-known-value c = search needs
@@ -46,7 +46,7 @@ add-count-at-2 : tie.Need-add-count-at-2
 add-count-at-2 c = omega arith
 
 count-at-requires-2 : tie.Need-count-at-requires-2
-count-at-requires-2 c κs = omega arith
+count-at-requires-2 c κs = (omega arith, omega arith)
 
 enum-known-value-2 : tie.Need-enum-known-value-2
 enum-known-value-2 c = search needs
@@ -67,7 +67,7 @@ returns-6 : tie.Need-returns-6
 returns-6 c = plus-good (c .before .before .before .before .before .before .before .before .before .before .before .args .s .now) (c .before .before .before .before .before .before .before .before .before .before .before .args .i) (omega arith) (c .before .before .before .count-at2 .result) _ (c .before .before .before .count-at2 .ensures) refl (c .before .before .before .before .if4 .taken) _ _ (c .before .value2 .given .1)
 
 count-at-requires-3 : tie.Need-count-at-requires-3
-count-at-requires-3 c κs = omega arith
+count-at-requires-3 c κs = (omega arith, omega arith)
 
 enum-known-value-3 : tie.Need-enum-known-value-3
 enum-known-value-3 c = search needs

@@ -35,8 +35,8 @@ part-trim-end c = search needs
 trim-requires-2 : tie.Need-trim-requires-2
 trim-requires-2 c κs = search needs
 
-parse-unsigned-requires : tie.Need-parse-unsigned-requires
-parse-unsigned-requires c κs = search needs
+parse-decimal-requires : tie.Need-parse-decimal-requires
+parse-decimal-requires c κs = record { some-base = omega arith; less = omega arith; held = omega arith }
 
 enum-known-w : tie.Need-enum-known-w
 enum-known-w c = search needs
@@ -45,10 +45,10 @@ enum-told : tie.Need-enum-told
 enum-told c = search needs
 
 returns-2 : tie.Need-returns-2
-returns-2 c = λ i at. size-bad-width (c .before .before .before .before .before .before .before .before .before .before .args .s .now) (c .before .before .before .before .before .before .before .before .until .result) (c .before .before .before .before .before .before .before .before .until .ensures) i at (c .before .before .before .before .before .before .before .if1 .left) (c .before .before .before .before .before .trim .result .now) (c .before .before .before .trim2 .result .now) (c .before .before .before .before .before .trim .ensures) (c .before .before .before .trim2 .ensures) (c .before .before .parse-unsigned .result) (c .before .before .parse-unsigned .ensures) (c .enum-told .given .1)
+returns-2 c = λ i at. size-bad-width (c .before .before .before .before .before .before .before .before .before .before .args .s .now) (c .before .before .before .before .before .before .before .before .until .result) (c .before .before .before .before .before .before .before .before .until .ensures) i at (c .before .before .before .before .before .before .before .if1 .left) (c .before .before .before .before .before .trim .result .now) (c .before .before .before .trim2 .result .now) (c .before .before .before .before .before .trim .ensures) (c .before .before .before .trim2 .ensures) (c .before .before .parse-decimal .result) (c .before .before .parse-decimal .ensures) (c .enum-told .given .1)
 
-parse-unsigned-requires-2 : tie.Need-parse-unsigned-requires-2
-parse-unsigned-requires-2 c κs = search needs
+parse-decimal-requires-2 : tie.Need-parse-decimal-requires-2
+parse-decimal-requires-2 c κs = record { some-base = omega arith; less = omega arith; held = omega arith }
 
 enum-known-h : tie.Need-enum-known-h
 enum-known-h c = search needs
@@ -57,16 +57,16 @@ enum-told-2 : tie.Need-enum-told-2
 enum-told-2 c = search needs
 
 returns-3 : tie.Need-returns-3
-returns-3 c = λ i at. size-bad-height (c .before .before .before .before .before .before .before .before .before .before .before .before .before .before .args .s .now) (c .before .before .before .before .before .before .before .before .before .before .before .before .until .result) (c .before .before .before .before .before .before .before .before .before .before .before .before .until .ensures) i at (c .before .before .before .before .before .before .before .before .before .before .before .if1 .left) (c .before .before .before .before .before .before .before .before .before .trim .result .now) (c .before .before .before .before .before .before .before .trim2 .result .now) (c .before .before .before .before .before .before .before .before .before .trim .ensures) (c .before .before .before .before .before .before .before .trim2 .ensures) (c .before .before .before .before .before .before .parse-unsigned .result) (c .before .before .before .before .before .before .parse-unsigned .ensures) _ 0 (c .before .before .before .before .w .given .1) (c .before .before .parse-unsigned2 .result) (c .before .before .parse-unsigned2 .ensures) (c .enum-told2 .given .1)
+returns-3 c = λ i at. size-bad-height (c .before .before .before .before .before .before .before .before .before .before .before .before .before .before .args .s .now) (c .before .before .before .before .before .before .before .before .before .before .before .before .until .result) (c .before .before .before .before .before .before .before .before .before .before .before .before .until .ensures) i at (c .before .before .before .before .before .before .before .before .before .before .before .if1 .left) (c .before .before .before .before .before .before .before .before .before .trim .result .now) (c .before .before .before .before .before .before .before .trim2 .result .now) (c .before .before .before .before .before .before .before .before .before .trim .ensures) (c .before .before .before .before .before .before .before .trim2 .ensures) (c .before .before .before .before .before .before .parse-decimal .result) (c .before .before .before .before .before .before .parse-decimal .ensures) _ 0 (c .before .before .before .before .w .given .1) (c .before .before .parse-decimal2 .result) (c .before .before .parse-decimal2 .ensures) (c .enum-told2 .given .1)
 
 cast-t17 : tie.Need-cast-t17
-cast-t17 c = omega (arith, value-le 10 65535 (c .before .before .before .before .before .before .before .before .before .before .trim .result .now) (c .before .before .before .before .before .before .before .parse-unsigned .result) _ (c .before .before .before .before .before .before .before .parse-unsigned .ensures) (c .before .before .before .before .before .w .given .1))
+cast-t17 c = omega (arith, value-le 10 65535 (c .before .before .before .before .before .before .before .before .before .before .trim .result .now) (c .before .before .before .before .before .before .before .parse-decimal .result) _ (c .before .before .before .before .before .before .before .parse-decimal .ensures) (c .before .before .before .before .before .w .given .1))
 
 cast-t18 : tie.Need-cast-t18
-cast-t18 c = omega (arith, value-le 10 65535 (c .before .before .before .before .before .before .before .before .trim2 .result .now) (c .before .before .before .parse-unsigned2 .result) _ (c .before .before .before .parse-unsigned2 .ensures) (c .before .h .given .1))
+cast-t18 c = omega (arith, value-le 10 65535 (c .before .before .before .before .before .before .before .before .trim2 .result .now) (c .before .before .before .parse-decimal2 .result) _ (c .before .before .before .parse-decimal2 .ensures) (c .before .h .given .1))
 
 returns-4 : tie.Need-returns-4
-returns-4 c = λ i at. size-good (c .before .before .before .before .before .before .before .before .before .before .before .before .before .before .before .args .s .now) (c .before .before .before .before .before .before .before .before .before .before .before .before .before .until .result) (c .before .before .before .before .before .before .before .before .before .before .before .before .before .until .ensures) i at (c .before .before .before .before .before .before .before .before .before .before .before .before .if1 .left) (c .before .before .before .before .before .before .before .before .before .before .trim .result .now) (c .before .before .before .before .before .before .before .before .trim2 .result .now) (c .before .before .before .before .before .before .before .before .before .before .trim .ensures) (c .before .before .before .before .before .before .before .before .trim2 .ensures) (c .before .before .before .before .before .before .before .parse-unsigned .result) (c .before .before .before .before .before .before .before .parse-unsigned .ensures) _ _ (c .before .before .before .before .before .w .given .1) (c .before .before .before .parse-unsigned2 .result) (c .before .before .before .parse-unsigned2 .ensures) (c .before .h .given .1)
+returns-4 c = λ i at. size-good (c .before .before .before .before .before .before .before .before .before .before .before .before .before .before .before .args .s .now) (c .before .before .before .before .before .before .before .before .before .before .before .before .before .until .result) (c .before .before .before .before .before .before .before .before .before .before .before .before .before .until .ensures) i at (c .before .before .before .before .before .before .before .before .before .before .before .before .if1 .left) (c .before .before .before .before .before .before .before .before .before .before .trim .result .now) (c .before .before .before .before .before .before .before .before .trim2 .result .now) (c .before .before .before .before .before .before .before .before .before .before .trim .ensures) (c .before .before .before .before .before .before .before .before .trim2 .ensures) (c .before .before .before .before .before .before .before .parse-decimal .result) (c .before .before .before .before .before .before .before .parse-decimal .ensures) _ _ (c .before .before .before .before .before .w .given .1) (c .before .before .before .parse-decimal2 .result) (c .before .before .before .parse-decimal2 .ensures) (c .before .h .given .1)
 
 pub parse-size-spec : {M : Type 1} → statement M
 parse-size-spec =
@@ -81,11 +81,11 @@ parse-size-spec =
     part-trim-start
     part-trim-end
     trim-requires-2
-    parse-unsigned-requires
+    parse-decimal-requires
     enum-known-w
     enum-told
     returns-2
-    parse-unsigned-requires-2
+    parse-decimal-requires-2
     enum-known-h
     enum-told-2
     returns-3
