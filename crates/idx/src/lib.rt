@@ -21,6 +21,9 @@ ghost use Rattle.idx_lines.specs.Answers.{lineSays};
 ghost use Rattle.idx.specs.Text.{lowByte, linesIn, textIn, textOf};
 ghost use Rattle.idx.specs.Answers.{nothing-seen, seeSize, seePalette, seeCue, seeAll, seeLine, MeasuredAs, CueFits, CueStored, CuesStored, linesWith, idxAnswer, IdxRead, pickOf, cueAnswer};
 
+// The byte that ends a line.
+const LINE_END: u8 = 10;
+
 // What was seen of a text, on the way to one of its cues.
 struct Seen {
     // How many cues there are.
@@ -158,7 +161,7 @@ fn measure_lines(text: &[u8], room: usize, cue: usize, palette: &mut [u8; 48]) -
     };
     let mut i = 0;
     loop {
-        let e = i + until(&text[i..], 10);
+        let e = i + until(&text[i..], LINE_END);
         let l = trim(&text[i..e]);
         let line = read_line(l, palette);
         match seen_line(seen, line, cue, room) {
@@ -222,7 +225,7 @@ fn fill(text: &[u8], starts: &mut [i64], positions: &mut [u64])
     let mut n: usize = 0;
     let mut i = 0;
     loop {
-        let e = i + until(&text[i..], 10);
+        let e = i + until(&text[i..], LINE_END);
         let l = trim(&text[i..e]);
         let line = read_line(l, &mut palette);
         n = store_cue(line, n, starts, positions);
