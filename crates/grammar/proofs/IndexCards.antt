@@ -10,7 +10,7 @@ use lib.IntN.{ℤ, pos, negsuc}
 use Rattle.grammar.specs.Parts.{Part}
 use Rattle.grammar.specs.IndexNumbers.{Valued, digit, numeral}
 use Rattle.grammar.specs.Index.{Said, size, palette, timestamp, startOf}
-use Rattle.grammar.specs.IndexCues.{Cue, cuesOf, coloursOf, paletteFrom, paletteOf, hasPalette, sizeFrom, sizeOf, clip, durationOf, cueAt}
+use Rattle.grammar.specs.IndexCues.{Cue, cuesOf, coloursOf, paletteFrom, paletteOf, hasPalette, sizeFrom, displaySize, clip, durationOf, cueAt}
 
 record Card : Type 0 where
   got : List ℕ
@@ -65,7 +65,7 @@ cards =
     -- what a second, shorter palette line leaves; whether there is a palette; the last size; positions by number
     card (take 12 (paletteOf lines)) (10 ∷ 11 ∷ 12 ∷ 4 ∷ 5 ∷ 6 ∷ 7 ∷ 8 ∷ 9 ∷ 0 ∷ 0 ∷ 0 ∷ [])
     ∷ card (map (λ (ls : List Said). cond (hasPalette ls) 1 0) (lines ∷ (coloured [] ∷ []) ∷ [] ∷ [])) (1 ∷ 0 ∷ 0 ∷ [])
-    ∷ card (sizeOf lines .width ∷ sizeOf lines .height ∷ sizeOf [] .width ∷ sizeOf [] .height ∷ []) (720 ∷ 576 ∷ 0 ∷ 0 ∷ [])
+    ∷ card (displaySize lines .width ∷ displaySize lines .height ∷ displaySize [] .width ∷ displaySize [] .height ∷ []) (720 ∷ 576 ∷ 0 ∷ 0 ∷ [])
     ∷ card (position (cueAt (cuesOf lines) 0)) (5 ∷ [])
     ∷ card (position (cueAt (cuesOf lines) 1)) (6 ∷ [])
     ∷ card (position (cueAt (cuesOf lines) 2)) []

@@ -55,18 +55,18 @@ pub record Size : Type 0 where
   pub width : ℕ
   pub height : ℕ
 
-abbrev pub sized : ℕ → ℕ → Size
-sized w h = record { width = w; height = h }
+abbrev pub sizeIs : ℕ → ℕ → Size
+sizeIs w h = record { width = w; height = h }
 
 -- the last size line counts
 unfoldable pub sizeFrom : Size → List Said → Size
 sizeFrom was [] = was
-sizeFrom was (size l w h ∷ ls) = sizeFrom (sized (w .value) (h .value)) ls
+sizeFrom was (size l w h ∷ ls) = sizeFrom (sizeIs (w .value) (h .value)) ls
 sizeFrom was (palette l ts ∷ ls) = sizeFrom was ls
 sizeFrom was (timestamp l ps fs n ∷ ls) = sizeFrom was ls
 
-abbrev pub sizeOf : List Said → Size
-sizeOf ls = sizeFrom (sized 0 0) ls
+abbrev pub displaySize : List Said → Size
+displaySize ls = sizeFrom (sizeIs 0 0) ls
 
 -- cue n, numbered from 0
 unfoldable pub cueAt : List Cue → ℕ → Option Cue

@@ -15,7 +15,7 @@ use Rattle.outcome.specs.Outcome.{Res, ok, refuse, check, andThen, no-cue, shor
 use Rattle.grammar.specs.Parts.{Part}
 use Rattle.grammar.specs.IndexParts.{line-end}
 use Rattle.grammar.specs.Index.{Said, size, palette, timestamp}
-use Rattle.grammar.specs.IndexCues.{Cue, cuesOf, cueAt, paletteOf, some-token, hasPalette, sizeFrom, sizeOf, durationOf, clip}
+use Rattle.grammar.specs.IndexCues.{Cue, cuesOf, cueAt, paletteOf, some-token, hasPalette, sizeFrom, displaySize, durationOf, clip}
 use Rattle.grammar.specs.IndexCues as cues
 use Rattle.idx_numbers.specs.Parts.{part, push, all, trim, split}
 use Rattle.idx_numbers.proofs.Leaves.{never}
@@ -52,7 +52,7 @@ see-cues cue s (size l w h ∷ ls) = see-cues cue _ ls
 see-cues cue s (palette l ts ∷ ls) = see-cues cue _ ls
 see-cues cue s (timestamp l ps fs v ∷ ls) = see-cues cue _ ls ∙ omega arith
 
-see-size : (cue : ℕ) (s : Seen) (ls : List Said) → cues.sized (seeAll cue s ls .width) (seeAll cue s ls .height) ≡ sizeFrom (cues.sized (s .width) (s .height)) ls
+see-size : (cue : ℕ) (s : Seen) (ls : List Said) → cues.sizeIs (seeAll cue s ls .width) (seeAll cue s ls .height) ≡ sizeFrom (cues.sizeIs (s .width) (s .height)) ls
 unfolding seeAll sizeFrom
 see-size cue s [] = refl
 see-size cue s (size l w h ∷ ls) = see-size cue _ ls
@@ -136,8 +136,8 @@ module _ (cue : ℕ) (ls : List Said) (seen : Seen) (all : seen ≡ seeAll cue n
   coloured-is : seen .«has_palette» ≡ hasPalette ls
   coloured-is = ap (λ (s : Seen). s .«has_palette») all ∙ see-palette cue nothing-seen ls
 
-  size-is : cues.sized (seen .width) (seen .height) ≡ sizeOf ls
-  size-is = ap (λ (s : Seen). cues.sized (s .width) (s .height)) all ∙ see-size cue nothing-seen ls
+  size-is : cues.sizeIs (seen .width) (seen .height) ≡ displaySize ls
+  size-is = ap (λ (s : Seen). cues.sizeIs (s .width) (s .height)) all ∙ see-size cue nothing-seen ls
 
   pub idx-answer : record { refused = 0; width = seen .width; height = seen .height; «has_palette» = seen .«has_palette»; palette = p; cues = seen .cues } ≡ idxAnswer (ok ls)
   unfolding idxAnswer

@@ -10,7 +10,7 @@ use lib.Seq.{sets}
 use lib.IntN.{ℤ, pos}
 use Rattle.outcome.specs.Outcome.{Res, ok, refuse, need, andThen, listed, no-cue, short-cues}
 use Rattle.grammar.specs.Index.{Said}
-use Rattle.grammar.specs.IndexCues.{Cue, cuesOf, cueAt, paletteFrom, paletteOf, hasPalette, sizeOf, durationOf}
+use Rattle.grammar.specs.IndexCues.{Cue, cuesOf, cueAt, paletteFrom, paletteOf, hasPalette, displaySize, durationOf}
 use Rattle.idx_lines.specs.Answers.{Value, sized, coloured, cued, valueOf}
 use Rattle.idx_lines.specs.declared.Line.{Line}
 use Rattle.idx_lines.specs.declared.Line.the-variants as line
@@ -132,8 +132,8 @@ idxAnswer (refuse n) = record { refused = n; width = 0; height = 0; «has_palett
 idxAnswer (ok ls) =
     record {
       refused = 0;
-      width = sizeOf ls .width;
-      height = sizeOf ls .height;
+      width = displaySize ls .width;
+      height = displaySize ls .height;
       «has_palette» = hasPalette ls;
       palette = paletteOf ls;
       cues = length (cuesOf ls);
