@@ -19,7 +19,14 @@ use Rattle.control.specs.Chain.{plainAt, changeAt, orderAt, commandAt, commands
 use Rattle.grammar.specs.Bands.{entryWords, bandWords}
 use Rattle.control.specs.Answers.{spuOf}
 use Rattle.spu.specs.Unit.{rowsAt, unitAt}
-use Rattle.cards.specs.Table.{Card, code, field, fields, unit, found, table}
+use Rattle.grammar.specs.IndexNumbers.{numeral}
+use Rattle.grammar.specs.Index.{startOf}
+use Rattle.idx_numbers.specs.Parts.{all, split}
+use Rattle.idx_numbers.specs.Numbers.{unsigned, signed, bare}
+use Rattle.idx_lines.specs.Lines.{steps}
+use Rattle.idx_lines.specs.Lines as lines
+use Rattle.idx_lines.specs.Answers.{timeAt}
+use Rattle.cards.specs.Table.{Card, code, field, fields, unit, found, position, start, table}
 
 abbrev pub got : List (List ℕ)
 got = map (λ (c : Card). c .got) table
@@ -28,7 +35,7 @@ abbrev pub want : List (List ℕ)
 want = map (λ (c : Card). c .want) table
 
 pub tabled : got ≡ want
-unfolding table code field fields unit found joined unitOf leading header1At headerAt bodyAt keptAt packAt privateAt kindAt packetAt packetsAt isBare formAt listFuel listFrom word nibble nibbles paints afterCodes align rowPixels codesIn indexMap untold tellBlock tellChain topEnd codeFrom codeAt rowAt fieldAt rowsFrom paintField decoded rowCounts fieldCounts weave lowerAt fieldsAt plainAt changeAt orderAt commandAt commandsAt blockAt blocksAt headFits chainAt controlAt spuOf entryWords bandWords rowsAt unitAt
+unfolding table code field fields unit found position start numeral startOf all split unsigned signed bare lines.fields steps timeAt joined unitOf leading header1At headerAt bodyAt keptAt packAt privateAt kindAt packetAt packetsAt isBare formAt listFuel listFrom word nibble nibbles paints afterCodes align rowPixels codesIn indexMap untold tellBlock tellChain topEnd codeFrom codeAt rowAt fieldAt rowsFrom paintField decoded rowCounts fieldCounts weave lowerAt fieldsAt plainAt changeAt orderAt commandAt commandsAt blockAt blocksAt headFits chainAt controlAt spuOf entryWords bandWords rowsAt unitAt
 tabled = refl
 
 pub each : (k : ℕ) → getD got k [] ≡ getD want k []

@@ -4,7 +4,12 @@ use Prim.Native.Nat.{ℕ, _*_}
 use mathlib.Core.Bool.{cond}
 use mathlib.Core.List.{List, [], _∷_, _++_}
 use lib.ListN.{length, replicate}
-use Rattle.outcome.specs.Outcome.{Res, ok, refuse, listed}
+use lib.IntN.{natAbs}
+use Rattle.outcome.specs.Outcome.{Res, ok, refuse, need, listed, bad-position}
+use Rattle.grammar.specs.IndexParts.{colon}
+use Rattle.idx_numbers.specs.Numbers.{positionOf}
+use Rattle.idx_numbers.specs.Parts.{split}
+use Rattle.idx_lines.specs.Answers.{timeAt}
 use Rattle.grammar.specs.Rows.{colour, paints}
 use Rattle.grammar.specs.Pixels.{codesIn, indexMap}
 use Rattle.grammar.specs.Control.{forced-start, stop, selectors, alphas, area, offsets, colours, Block}
@@ -75,6 +80,17 @@ fieldsOf s =
     s .x1 ∷ s .y1 ∷ s .x2 ∷ s .y2 ∷ s .«palette_sel» ∷ s .alpha ∷ cond (s .started) 1 0 ∷ s .«start_delay_raw» ∷ cond (s .stopped) 1 0 ∷ s .«stop_delay_raw»
     ∷ cond (s .«forced_display») 1 0 ∷ s .«top_rle_off» ∷ s .«bot_rle_off» ∷ cond (s .«saw_chg_colcon») 1 0 ∷ s .«band_words» ∷ s .codes ∷ []
 
+-- the position that these bytes say, and the start, which is not below 0, of a time in these bytes
+unfoldable pub position : List ℕ → List ℕ
+position s = outcome (λ v. v ∷ []) (need bad-position (positionOf s))
+
+unfoldable pub start : List ℕ → List ℕ
+start s = outcome (λ z. natAbs z ∷ []) (timeAt (split colon 0 s))
+
+-- the digits 256204778, and one more
+abbrev pub hours : ℕ → List ℕ
+hours d = 50 ∷ 53 ∷ 54 ∷ 50 ∷ 48 ∷ 52 ∷ 55 ∷ 55 ∷ 56 ∷ d ∷ []
+
 unfoldable pub table : List Card
 table =
     -- each length of code at its least and its greatest run, and a fill (FORMAT 5.2 to 5.4)
@@ -114,4 +130,9 @@ table =
     -- each value of what was told in its field of the record
     ∷ card (fieldsOf (spuOf (told blocks) 13)) (1 ∷ 2 ∷ 3 ∷ 4 ∷ 11 ∷ 12 ∷ 1 ∷ 7 ∷ 1 ∷ 9 ∷ 1 ∷ 5 ∷ 6 ∷ 1 ∷ 3 ∷ 13 ∷ [])
     ∷ card (fieldsOf (spuOf (told []) 0)) (replicate 16 0)
+    -- positions `10` and `10000000000000000`; 2562047788 hours stand, 2562047789 do not (FORMAT 1.7, 1.8)
+    ∷ card (position (49 ∷ 48 ∷ [])) (0 ∷ 16 ∷ [])
+    ∷ card (position (49 ∷ replicate 16 48)) (0 ∷ 10000000000000000 ∷ [])
+    ∷ card (start (hours 56)) (0 ∷ 9223372036800000000 ∷ [])
+    ∷ card (start (hours 57)) (8 ∷ [])
     ∷ []

@@ -6,4 +6,9 @@ pub mod Record
 pub mod Rows
 pub mod Pixels
 pub mod Picture
+pub mod Parts
 pub mod Packets
+pub mod IndexParts
+pub mod IndexNumbers
+pub mod Index
+pub mod IndexCues

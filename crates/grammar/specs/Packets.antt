@@ -10,11 +10,7 @@ use lib.ListN.{length, take}
 use lib.Seq.{slice}
 use lib.Dec.{eqb, leb}
 use Rattle.grammar.specs.Bytes.{byte, word}
-
--- a part of the file: where it starts, and its bytes
-pub record Part : Type 0 where
-  pub place : ℕ
-  pub bytes : List ℕ
+pub use Rattle.grammar.specs.Parts.{Part}
 
 -- p is the part of f from a up to e
 pub record IsPart (f : List ℕ) (a e : ℕ) (p : Part) : Type 0 where

@@ -2,6 +2,7 @@
 -- Assumes nothing: these are definitions.
 use Prim.Native.Nat.{ℕ}
 use mathlib.Core.Bool.{Bool, cond}
+use mathlib.Core.Option.{Option, some, none}
 use mathlib.Core.List.{List, [], _∷_}
 
 pub data Res (A : Type 0) : Type 0 where
@@ -9,6 +10,39 @@ pub data Res (A : Type 0) : Type 0 where
   refuse : ℕ → Res A
 
 -- the refusals that the layers give, by name
+abbrev pub high-byte : ℕ
+high-byte = 1
+
+abbrev pub bad-width : ℕ
+bad-width = 2
+
+abbrev pub bad-height : ℕ
+bad-height = 3
+
+abbrev pub bad-token : ℕ
+bad-token = 4
+
+abbrev pub no-time : ℕ
+no-time = 5
+
+abbrev pub no-position : ℕ
+no-position = 6
+
+abbrev pub bad-time : ℕ
+bad-time = 7
+
+abbrev pub long-time : ℕ
+long-time = 8
+
+abbrev pub bad-position : ℕ
+bad-position = 9
+
+abbrev pub short-cues : ℕ
+short-cues = 10
+
+abbrev pub no-cue : ℕ
+no-cue = 11
+
 abbrev pub past-file : ℕ
 past-file = 12
 
@@ -69,6 +103,11 @@ short-output = 31
 -- r where the test holds, else the refusal n: what is asked first refuses first
 abbrev pub check : {A : Type 0} → Bool → ℕ → Res A → Res A
 check t n r = cond t r (refuse n)
+
+-- what was found, or the refusal n
+abbrev pub need : {A : Type 0} → ℕ → Option A → Res A
+need n (some a) = ok a
+need n none = refuse n
 
 abbrev pub andThen : {A B : Type 0} → Res A → (A → Res B) → Res B
 andThen (ok a) k = k a

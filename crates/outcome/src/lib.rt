@@ -1,5 +1,38 @@
 // The numbers that refusals carry, one name each (docs/FORMAT.md, table of refusals). A layer adds its own here.
 
+// A byte of the index text is 80 or above.
+pub const HIGH_BYTE: u8 = 1;
+
+// The width of a size line is no number.
+pub const BAD_WIDTH: u8 = 2;
+
+// The height of a size line is no number.
+pub const BAD_HEIGHT: u8 = 3;
+
+// A token of a palette line is no number.
+pub const BAD_TOKEN: u8 = 4;
+
+// A timestamp line has no time.
+pub const NO_TIME: u8 = 5;
+
+// A timestamp line has no position.
+pub const NO_POSITION: u8 = 6;
+
+// A field of a time is no number.
+pub const BAD_TIME: u8 = 7;
+
+// A step of a time's sum leaves signed 64 bits.
+pub const LONG_TIME: u8 = 8;
+
+// The position of a timestamp line is no number.
+pub const BAD_POSITION: u8 = 9;
+
+// A lent cue buffer has no room for a cue.
+pub const SHORT_CUES: u8 = 10;
+
+// The text has no such cue.
+pub const NO_CUE: u8 = 11;
+
 // A cue's position is at the file's end or past it.
 pub const PAST_FILE: u8 = 12;
 

@@ -1,0 +1,354 @@
+// The index text as a whole (docs/FORMAT.md, section 1): size, palette and cue table, or one cue of it.
+use idx_lines::Line;
+use idx_lines::read_line;
+use idx_numbers::trim;
+use idx_numbers::until;
+use outcome::HIGH_BYTE;
+use outcome::NO_CUE;
+use outcome::SHORT_CUES;
+ghost use mathlib.Core.Path.{_≡_};
+ghost use mathlib.Core.Option.{some};
+ghost use mathlib.Core.List.{List};
+ghost use Prim.Native.Nat.{ℕ, _≤_, _<_, _+_, _^_, min};
+ghost use lib.IntN.{pos, _-ℤ_};
+ghost use lib.ListN.{length};
+ghost use Rattle.outcome.specs.Outcome.{ok, refuse, IsOk};
+ghost use Rattle.grammar.specs.IndexParts.{line-end};
+ghost use Rattle.grammar.specs.Index.{Said};
+ghost use Rattle.grammar.specs.IndexCues.{paletteOf, clip};
+ghost use Rattle.idx_numbers.specs.Parts.{all, split};
+ghost use Rattle.idx_lines.specs.Answers.{lineSays};
+ghost use Rattle.idx.specs.Text.{lowByte, linesIn, textIn, textOf};
+ghost use Rattle.idx.specs.Answers.{nothing-seen, seeSize, seePalette, seeCue, seeAll, seeLine, MeasuredAs, CueFits, CueStored, CuesStored, linesWith, idxAnswer, IdxRead, pickOf, cueAnswer};
+
+// The byte that ends a line.
+const LINE_END: u8 = 10;
+
+// What was seen of a text, on the way to one of its cues.
+struct Seen {
+    // How many cues there are.
+    pub cues: usize,
+    pub width: u16,
+    pub height: u16,
+    pub has_palette: bool,
+    // Start and position of the cue that is looked for, and the start of the one after it; 0 until they are met.
+    pub start: i64,
+    pub position: u64,
+    pub next: i64,
+}
+
+enum Measured {
+    // The number of the refusal.
+    Refused(u8),
+    Saw(Seen),
+}
+
+// Size, palette and number of cues of a text. Beside a refusal all else is 0.
+pub struct IdxAnswer {
+    // The number of the refusal; 0 where there is none.
+    pub refused: u8,
+    pub width: u16,
+    pub height: u16,
+    pub has_palette: bool,
+    // Red, green and blue of 16 entries.
+    pub palette: [u8; 48],
+    pub cues: usize,
+}
+
+// One cue of a text. Beside a refusal all else is 0.
+pub struct CueAnswer {
+    // The number of the refusal; 0 where there is none.
+    pub refused: u8,
+    // Microseconds.
+    pub start: i64,
+    pub position: u64,
+    // Whether another cue follows, and the microseconds up to it; 0 where none does.
+    pub has_duration: bool,
+    pub duration: u64,
+    pub has_palette: bool,
+    // Red, green and blue of 16 entries.
+    pub palette: [u8; 48],
+}
+
+// Whether all bytes are below 80. With no way out of the loop many are tested at once.
+fn is_low(s: &[u8]) -> bool
+    ensures { λ r. ⌜ r ≡ all lowByte (now (s .entry)) ⌝ }
+{
+    let mut low = true;
+    let mut i = 0;
+    while i < s.len() {
+        if s[i] >= 128 {
+            low = false;
+        }
+        i += 1;
+    }
+    low
+}
+
+fn with_size(seen: Seen, width: u16, height: u16) -> Seen
+    ensures { λ r. ⌜ r ≡ seeSize seen width height ⌝ }
+{
+    let mut s = seen;
+    s.width = width;
+    s.height = height;
+    s
+}
+
+fn with_palette(seen: Seen, any: bool) -> Seen
+    ensures { λ r. ⌜ r ≡ seePalette seen any ⌝ }
+{
+    let mut s = seen;
+    if any {
+        s.has_palette = true;
+        return s;
+    }
+    s
+}
+
+fn with_cue(seen: Seen, start: i64, position: u64, cue: usize) -> Seen
+    requires { ⌜ seen .cues + 1 < 2 ^ 64 ⌝ }
+    ensures { λ r. ⌜ r ≡ seeCue cue seen start position ⌝ }
+{
+    let n = seen.cues;
+    let mut s = seen;
+    s.cues = n + 1;
+    if n < cue {
+        return s;
+    }
+    if n == cue {
+        s.start = start;
+        s.position = position;
+        return s;
+    }
+    if n - cue == 1 {
+        s.next = start;
+        return s;
+    }
+    s
+}
+
+// One line more, with room for so many cues.
+fn seen_line(seen: Seen, line: Line, cue: usize, room: usize) -> Measured
+    ensures { λ r. ⌜ r ≡ seeLine cue room seen (lineSays line) ⌝ }
+{
+    match line {
+        Line::Refused(n) => Measured::Refused(n),
+        Line::Nothing => Measured::Saw(seen),
+        Line::Sized(w, h) => Measured::Saw(with_size(seen, w, h)),
+        Line::Coloured(any) => Measured::Saw(with_palette(seen, any)),
+        Line::Cue(start, position) => {
+            let n = seen.cues;
+            if n >= room {
+                return Measured::Refused(SHORT_CUES);
+            }
+            Measured::Saw(with_cue(seen, start, position, cue))
+        }
+    }
+}
+
+// All lines.
+fn measure_lines(text: &[u8], room: usize, cue: usize, palette: &mut [u8; 48]) -> Measured
+    ensures { λ r. ⌜ MeasuredAs cue (now (palette .entry)) (linesIn (some room) 0 (split line-end 0 (now (text .entry)))) r (now (palette .exit)) ⌝ }
+{
+    let mut seen = Seen {
+        cues: 0,
+        width: 0,
+        height: 0,
+        has_palette: false,
+        start: 0,
+        position: 0,
+        next: 0,
+    };
+    let mut i = 0;
+    loop {
+        let e = i + until(&text[i..], LINE_END);
+        let l = trim(&text[i..e]);
+        let line = read_line(l, palette);
+        match seen_line(seen, line, cue, room) {
+            Measured::Refused(n) => {
+                return Measured::Refused(n);
+            }
+            Measured::Saw(s) => {
+                seen = s;
+            }
+        }
+        if e >= text.len() {
+            return Measured::Saw(seen);
+        }
+        i = e + 1;
+    }
+}
+
+// The whole text, with room for so many cues.
+fn measure(text: &[u8], room: usize, cue: usize, palette: &mut [u8; 48]) -> Measured
+    ensures { λ r. ⌜ MeasuredAs cue (now (palette .entry)) (textIn (some room) (now (text .entry))) r (now (palette .exit)) ⌝ }
+{
+    if !is_low(text) {
+        return Measured::Refused(HIGH_BYTE);
+    }
+    measure_lines(text, room, cue, palette)
+}
+
+fn shorter(a: usize, b: usize) -> usize
+    ensures { λ r. ⌜ r ≡ min a b ⌝ }
+{
+    if a < b {
+        return a;
+    }
+    b
+}
+
+// A line's cue, if it has one, stored as cue n; how many there are then.
+fn store_cue(line: Line, n: usize, starts: &mut [i64], positions: &mut [u64]) -> usize
+    requires { ⌜ CueFits line n (length (now starts)) (length (now positions)) ⌝ }
+    ensures { λ r. ⌜ CueStored line n (now (starts .entry)) (now (positions .entry)) r (now (starts .exit)) (now (positions .exit)) ⌝ }
+{
+    match line {
+        Line::Refused(_) => n,
+        Line::Nothing => n,
+        Line::Sized(_, _) => n,
+        Line::Coloured(_) => n,
+        Line::Cue(start, position) => {
+            starts[n] = start;
+            positions[n] = position;
+            n + 1
+        }
+    }
+}
+
+// The cues of a text that was measured, stored from the front of both buffers on.
+fn fill(text: &[u8], starts: &mut [i64], positions: &mut [u64])
+    requires { ⌜ IsOk (linesWith (now starts) (now positions) (now text)) ⌝ }
+    ensures { λ r. ⌜ CuesStored (linesWith (now (starts .entry)) (now (positions .entry)) (now (text .entry))) (now (starts .entry)) (now (positions .entry)) (now (starts .exit)) (now (positions .exit)) ⌝ }
+{
+    let mut palette = [0u8; 48];
+    let mut n: usize = 0;
+    let mut i = 0;
+    loop {
+        let e = i + until(&text[i..], LINE_END);
+        let l = trim(&text[i..e]);
+        let line = read_line(l, &mut palette);
+        n = store_cue(line, n, starts, positions);
+        if e >= text.len() {
+            return;
+        }
+        i = e + 1;
+    }
+}
+
+fn refused_idx(number: u8) -> IdxAnswer
+    ensures { λ r. ⌜ r ≡ idxAnswer (refuse number) ⌝ }
+{
+    IdxAnswer {
+        refused: number,
+        width: 0,
+        height: 0,
+        has_palette: false,
+        palette: [0u8; 48],
+        cues: 0,
+    }
+}
+
+fn accepted_idx(seen: Seen, palette: [u8; 48]) -> IdxAnswer
+    ensures { λ r. ⌜ ((ls : List Said) (cue : ℕ) → seen ≡ seeAll cue nothing-seen ls → palette ≡ paletteOf ls → r ≡ idxAnswer (ok ls)) ⌝ }
+{
+    IdxAnswer {
+        refused: 0,
+        width: seen.width,
+        height: seen.height,
+        has_palette: seen.has_palette,
+        palette,
+        cues: seen.cues,
+    }
+}
+
+// Size, palette and cues of a text: start and position of each cue go to the front of the lent buffers. A cue beyond the shorter one is
+// refused, in turn with the other faults of its line and of the lines before it; on a refusal both buffers are as found.
+// Ruled out: a later fault answered, and a cue stored on a refusal.
+pub fn parse_idx(text: &[u8], starts: &mut [i64], positions: &mut [u64]) -> IdxAnswer
+    ensures { λ r. ⌜ IdxRead (now (text .entry)) (now (starts .entry)) (now (positions .entry)) r (now (starts .exit)) (now (positions .exit)) ⌝ }
+{
+    let room = shorter(starts.len(), positions.len());
+    let mut palette = [0u8; 48];
+    match measure(text, room, 0, &mut palette) {
+        Measured::Refused(number) => refused_idx(number),
+        Measured::Saw(seen) => {
+            fill(text, starts, positions);
+            accepted_idx(seen, palette)
+        }
+    }
+}
+
+fn refused_cue(number: u8) -> CueAnswer
+    ensures { λ r. ⌜ r ≡ cueAnswer (refuse number) ⌝ }
+{
+    CueAnswer {
+        refused: number,
+        start: 0,
+        position: 0,
+        has_duration: false,
+        duration: 0,
+        has_palette: false,
+        palette: [0u8; 48],
+    }
+}
+
+// The time up to the next start: 0 at least, and the largest signed number at most.
+fn duration_of(start: i64, next: i64) -> u64
+    ensures { λ r. ⌜ r ≡ clip (next -ℤ start) ⌝ }
+{
+    if start < next {
+        if start < 0 {
+            if 9223372036854775807 + start < next {
+                return 9223372036854775807;
+            }
+            return (next - start) as u64;
+        }
+        return (next - start) as u64;
+    }
+    0
+}
+
+fn picked_cue(seen: Seen, cue: usize, palette: [u8; 48]) -> CueAnswer
+    ensures { λ r. ⌜ ((ls : List Said) → seen ≡ seeAll cue nothing-seen ls → palette ≡ paletteOf ls → r ≡ cueAnswer (pickOf (ok ls) cue)) ⌝ }
+{
+    let n = seen.cues;
+    if cue >= n {
+        return refused_cue(NO_CUE);
+    }
+    if n - cue == 1 {
+        return CueAnswer {
+            refused: 0,
+            start: seen.start,
+            position: seen.position,
+            has_duration: false,
+            duration: 0,
+            has_palette: seen.has_palette,
+            palette,
+        };
+    }
+    let start = seen.start;
+    let next = seen.next;
+    let duration = duration_of(start, next);
+    CueAnswer {
+        refused: 0,
+        start,
+        position: seen.position,
+        has_duration: true,
+        duration,
+        has_palette: seen.has_palette,
+        palette,
+    }
+}
+
+// One cue of a text, without cue buffers: every line is checked all the same.
+// Ruled out: a text with a bad later line accepted, and a duration below 0.
+pub fn pick_cue(text: &[u8], cue: usize) -> CueAnswer
+    ensures { λ r. ⌜ r ≡ cueAnswer (pickOf (textOf (now (text .entry))) cue) ⌝ }
+{
+    let mut palette = [0u8; 48];
+    match measure(text, 18446744073709551615, cue, &mut palette) {
+        Measured::Refused(number) => refused_cue(number),
+        Measured::Saw(seen) => picked_cue(seen, cue, palette),
+    }
+}

@@ -1,0 +1,5 @@
+pub mod Leaves
+pub mod Turns
+pub mod Numbers
+pub mod Steps
+pub mod Times
