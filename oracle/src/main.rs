@@ -7,12 +7,14 @@ use std::collections::BTreeMap;
 use std::time::{Duration, Instant};
 
 const USAGE: &str = "oracle [--seed N] [--seconds N] [--count N] [--class NAME] [--only I] [--mutants]
+oracle --ask CLASS HEX [N N N N]
 
   --seed N      the seed of the generated requests (else 1, or with --seconds one from the clock)
   --count N     generated requests a class (else 400000)
   --seconds N   generate requests for N seconds in all, instead of a number of them
   --class NAME  one class only
   --only I      generated request number I of each class only, printed
+  --ask         one request: its bytes in hexadecimal without blanks (or -), and its numbers, whose meaning the class's source says
   --mutants     run each wrong copy of the original until it is noticed
 
 Exit status 1 where the two sides differ, where a class is too thin, or where a wrong copy is not noticed.";
@@ -106,6 +108,7 @@ fn main() {
             "--only" => only = Some(number()),
             "--class" => one = Some(words.next().unwrap_or_else(|| usage())),
             "--mutants" => mutants = true,
+            "--ask" => return ask(&words.collect::<Vec<_>>()),
             _ => usage(),
         }
     }
@@ -151,6 +154,25 @@ fn main() {
     }
     println!("seed {seed}: {all} compared, {differ} differ");
     std::process::exit(!good as i32);
+}
+
+// One request, and what both sides say.
+fn ask(words: &[String]) {
+    let [class, bytes, numbers @ ..] = words else { usage() };
+    let Some(class) = classes::all().into_iter().find(|c| c.name == class) else { usage() };
+    let digits: Vec<u8> = bytes.bytes().filter(|&b| b != b'-').map(|b| (b as char).to_digit(16).unwrap_or_else(|| usage()) as u8).collect();
+    let mut q = Request { bytes: digits.chunks(2).map(|p| p[0] << 4 | p.get(1).unwrap_or(&0)).collect(), n: [0; 4] };
+    for (n, word) in q.n.iter_mut().zip(numbers) {
+        *n = word.parse().unwrap_or_else(|_| usage());
+    }
+    std::panic::set_hook(Box::new(|_| {}));
+    let o = (class.compare)(&oracle::original::adapter::SIDE, &q);
+    println!("the port says {}; accepted by both: {}", o.refusal, o.both);
+    for (name, what) in [("rule", o.rule.map(String::from)), ("the original panicked", o.panicked), ("DIFFERS", o.differs)] {
+        if let Some(what) = what {
+            println!("{name}: {what}");
+        }
+    }
 }
 
 // How many wrong copies were not noticed.

@@ -50,8 +50,11 @@ fn shown(t: f64) -> String {
     if t >= 1e-3 { format!("{:.2} ms", t * 1e3) } else { format!("{:.2} us", t * 1e6) }
 }
 
-// Times both in turn, as often as makes a round long enough to be measured.
+// Times both in turn, as often as makes a round long enough to be measured. A word on the command line leaves out the names without it.
 fn beside(name: &str, original: &mut dyn FnMut(), port: &mut dyn FnMut()) {
+    if std::env::args().nth(1).is_some_and(|word| !name.contains(&word)) {
+        return;
+    }
     let once = seconds(1, original).max(seconds(1, port)).max(1e-9);
     let turns = (LEAST / once).ceil().max(1.0) as usize;
     let (mut theirs, mut ours, mut ratios) = (Vec::new(), Vec::new(), Vec::new());
@@ -117,6 +120,35 @@ fn extract(name: &str, title: &Title, lent: &mut Lent) {
     );
 }
 
+// The layers alone: the payload of the long band list, and one field of the codes of one nibble.
+fn layers(lent: &mut Lent) {
+    let unit = many_bands();
+    let payload = &unit[11..];
+    let mut count = 0;
+    beside(
+        "16,380 bands, the payload alone",
+        &mut || {
+            black_box(original::parse_chg_colcon_payload(black_box(payload)).is_ok());
+        },
+        &mut || assert_eq!(port::bands(black_box(payload), &mut lent.words, 0, &mut count), 0),
+    );
+    let unit = one_nibble();
+    let (field, width, height) = (&unit[4..65518], 4096, 62);
+    let mut theirs = vec![0; width * height];
+    let mut codes = 0;
+    beside(
+        "codes of one nibble, one field",
+        &mut || {
+            theirs.fill(0);
+            black_box(original::decode_rle_field(black_box(field), width, height, 0, 2, &mut theirs).is_ok());
+        },
+        &mut || {
+            lent.map[..width * height].fill(0);
+            assert_eq!(port::field(black_box(field), width, height, 0, &mut lent.map, &mut codes), 0);
+        },
+    );
+}
+
 fn headed(mut unit: Vec<u8>, control: usize) -> Vec<u8> {
     let length = unit.len();
     set_word(&mut unit, 0, length);
@@ -169,4 +201,5 @@ fn main() {
     decode("blocks that overlap, 65,532 bytes", &[overlapping(65535)], &mut lent);
     decode("16,380 bands", &[many_bands()], &mut lent);
     decode("codes of one nibble", &[one_nibble()], &mut lent);
+    layers(&mut lent);
 }
