@@ -25,6 +25,45 @@ uint8_t vobsub_extract_spu(const uint8_t *file, size_t file_len,
                            uint8_t *scratch, size_t scratch_len,
                            size_t *length, uint8_t *joined);
 
+/* Finds the body of a PES, the pes_len bytes after the length word of a private_stream_1 packet. *body is set to its place in pes, which is
+   pes_len where the body is empty. body is not null, and the two regions do not overlap. On a refusal (13) *body is as it was. */
+uint8_t vobsub_parse_pes_body(const uint8_t *pes, size_t pes_len,
+                              size_t *body);
+
+/* Decodes the run codes of a field, which has field_len bytes, into rows start_row, start_row + 2, .. of a map of that width and height, one
+   byte a pixel from pixels[0] on. pixels has pixels_len bytes; width, height and start_row may be any numbers. *codes is set to the number of
+   codes read. codes is not null, and the three regions do not overlap. Only the rows named are written; on a refusal (22, 26) pixels and
+   *codes are as they were. It takes up to 128 KiB of stack. */
+uint8_t vobsub_decode_rle_field(const uint8_t *field, size_t field_len,
+                                size_t width, size_t height, size_t start_row,
+                                uint8_t *pixels, size_t pixels_len,
+                                size_t *codes);
+
+/* Places of the numbers of a record: area, words of four selectors and of four alphas (colour 0 in the top nibble), whether there is a start
+   and its delay, whether there is a stop and its delay (both in 1024/90000 of a second), whether a start is forced, the places of the two
+   fields, whether there is a colour change, the number of words that the bands take, the number of codes read. What is not given is 0. */
+enum vobsub_number {
+    VOBSUB_X1, VOBSUB_Y1, VOBSUB_X2, VOBSUB_Y2,
+    VOBSUB_PALETTE_SEL, VOBSUB_ALPHA,
+    VOBSUB_STARTED, VOBSUB_START_DELAY_RAW,
+    VOBSUB_STOPPED, VOBSUB_STOP_DELAY_RAW,
+    VOBSUB_FORCED_DISPLAY,
+    VOBSUB_TOP_RLE_OFF, VOBSUB_BOT_RLE_OFF,
+    VOBSUB_SAW_CHG_COLCON, VOBSUB_BAND_WORDS,
+    VOBSUB_CODES,
+    VOBSUB_NUMBERS
+};
+
+/* Decodes a unit, the unit_len bytes from its length word on. Its picture goes to the front of pixels, which has pixels_len bytes, one byte a
+   pixel, row after row; its bands go to the front of words, which has words_len words; numbers has VOBSUB_NUMBERS numbers, and gets those of
+   the record. numbers is not null, and the four regions do not overlap. Of pixels the first (x2 - x1 + 1) * (y2 - y1 + 1) bytes are written,
+   of words as many as numbers[VOBSUB_BAND_WORDS] says; on a refusal (15 to 23, 25, 26) all three are as they were. It takes up to 256 KiB of
+   stack, and a little more. */
+uint8_t vobsub_parse_and_decode_spu(const uint8_t *unit, size_t unit_len,
+                                    uint8_t *pixels, size_t pixels_len,
+                                    uint16_t *words, size_t words_len,
+                                    size_t numbers[VOBSUB_NUMBERS]);
+
 #ifdef __cplusplus
 }
 #endif

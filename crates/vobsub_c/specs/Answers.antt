@@ -1,18 +1,29 @@
 -- What the exported functions return and leave, in the words of the layers. Assumes nothing: these are definitions.
-use Prim.Native.Nat.{ℕ}
+use Prim.Native.Nat.{ℕ, _*_}
 use mathlib.Core.Path.{_≡_}
-use mathlib.Core.List.{List}
+use mathlib.Core.List.{List, [], _∷_}
+use mathlib.Core.Bool.{cond}
 use lib.ListN.{length}
 use lib.Seq.{sets}
-use Rattle.outcome.specs.Outcome.{listed}
+use Rattle.outcome.specs.Outcome.{Res, ok, refuse, listed}
 use Rattle.chg_colcon.specs.Answers.{countOf, stored}
 use Rattle.chg_colcon.specs.declared.BandAnswer.{BandAnswer}
 use Rattle.chg_colcon.specs.declared.BandAnswer.the-variants as band-answer
 use Rattle.grammar.specs.Packets.{subpicture}
+use Rattle.ps.specs.Packets.{bodyAt}
 use Rattle.ps.specs.Unit.{unitAt}
 use Rattle.ps.specs.Answers.{unitGiven, unitStored}
 use Rattle.ps.specs.declared.UnitAnswer.{UnitAnswer}
 use Rattle.ps.specs.declared.UnitAnswer.the-variants as unit-answer
+use Rattle.rle.specs.Field.{decoded, paintField}
+use Rattle.rle.specs.Answers.{fieldAnswer}
+use Rattle.rle.specs.declared.FieldAnswer.{FieldAnswer}
+use Rattle.rle.specs.declared.FieldAnswer.the-variants as field-answer
+use Rattle.control.specs.declared.Spu.{Spu}
+use Rattle.spu.specs.Unit.{unitIn}
+use Rattle.spu.specs.Answers.{spuAnswer, unitMap, unitBands}
+use Rattle.spu.specs.declared.SpuAnswer.{SpuAnswer}
+use Rattle.spu.specs.declared.SpuAnswer.the-variants as spu-answer
 
 -- the refusal of an answer, 0 where there is none
 abbrev pub bandRefusal : BandAnswer → ℕ
@@ -51,3 +62,50 @@ pub record UnitExtracted (file : List ℕ) (position : ℕ) (scratch : List ℕ)
   pub long : after ≡ unitLength (unitGiven (unitAt subpicture file position (length scratch))) before
   pub where-is : joined′ ≡ unitJoined (unitGiven (unitAt subpicture file position (length scratch))) joined
   pub stores : scratch′ ≡ sets scratch 0 (unitStored (unitAt subpicture file position (length scratch)))
+
+-- the refusal of a body, and its place, or the number that was there
+abbrev pub bodyRefusal : Res ℕ → ℕ
+bodyRefusal (ok b) = 0
+bodyRefusal (refuse k) = k
+
+abbrev pub bodyPlace : Res ℕ → ℕ → ℕ
+bodyPlace (ok b) before = b
+bodyPlace (refuse k) before = before
+
+pub record BodyFound (pes : List ℕ) (before r after : ℕ) : Type 0 where
+  pub refusal : r ≡ bodyRefusal (bodyAt pes 0 (length pes))
+  pub place : after ≡ bodyPlace (bodyAt pes 0 (length pes)) before
+
+abbrev pub fieldRefusal : FieldAnswer → ℕ
+fieldRefusal (field-answer.Rows n) = 0
+fieldRefusal (field-answer.Refused k) = k
+
+-- the number of codes, or the number that was there
+abbrev pub fieldCodes : FieldAnswer → ℕ → ℕ
+fieldCodes (field-answer.Rows n) before = n .codes
+fieldCodes (field-answer.Refused k) before = before
+
+pub record FieldDecoded (field : List ℕ) (w h start : ℕ) (pixels : List ℕ) (before r : ℕ) (pixels′ : List ℕ) (after : ℕ) : Type 0 where
+  pub refusal : r ≡ fieldRefusal (fieldAnswer w (decoded field w h start pixels))
+  pub codes : after ≡ fieldCodes (fieldAnswer w (decoded field w h start pixels)) before
+  pub stores : pixels′ ≡ paintField w (start * w) (listed (decoded field w h start pixels)) pixels
+
+abbrev pub spuRefusal : SpuAnswer → ℕ
+spuRefusal (spu-answer.Shows s) = 0
+spuRefusal (spu-answer.Refused k) = k
+
+-- the numbers of a record in the order of include/vobsub.h
+abbrev pub spuNumbers : Spu → List ℕ
+spuNumbers s =
+    s .x1 ∷ s .y1 ∷ s .x2 ∷ s .y2 ∷ s .«palette_sel» ∷ s .alpha ∷ cond (s .started) 1 0 ∷ s .«start_delay_raw» ∷ cond (s .stopped) 1 0 ∷ s .«stop_delay_raw» ∷ cond (s .«forced_display») 1 0 ∷ s .«top_rle_off» ∷ s .«bot_rle_off» ∷ cond (s .«saw_chg_colcon») 1 0 ∷ s .«band_words» ∷ s .codes ∷ []
+
+-- and of an answer, or those that were there
+abbrev pub spuRecord : SpuAnswer → List ℕ → List ℕ
+spuRecord (spu-answer.Shows s) before = spuNumbers s
+spuRecord (spu-answer.Refused k) before = before
+
+pub record UnitDecoded (unit pixels words before : List ℕ) (r : ℕ) (pixels′ words′ after : List ℕ) : Type 0 where
+  pub refusal : r ≡ spuRefusal (spuAnswer (unitIn unit (length pixels) (length words)))
+  pub told : after ≡ spuRecord (spuAnswer (unitIn unit (length pixels) (length words))) before
+  pub paints : pixels′ ≡ sets pixels 0 (unitMap (unitIn unit (length pixels) (length words)))
+  pub stores : words′ ≡ sets words 0 (unitBands (unitIn unit (length pixels) (length words)))

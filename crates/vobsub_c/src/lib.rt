@@ -1,9 +1,14 @@
 // The functions exported for C and Rust, thin over those of the layers: an answer is its refusal, 0 where there is none, and its value
 // goes where the caller says, which is as found on a refusal.
 use chg_colcon::BandAnswer;
+use control::Spu;
+use outcome::NO_UNIT;
 use ps::UnitAnswer;
+use rle::FieldAnswer;
+use spu::SpuAnswer;
+ghost use mathlib.Core.Bool.{cond};
 ghost use mathlib.Core.Path.{_≡_};
-ghost use Rattle.vobsub_c.specs.Answers.{BandsGiven, UnitExtracted};
+ghost use Rattle.vobsub_c.specs.Answers.{BandsGiven, UnitExtracted, FieldDecoded, BodyFound, spuNumbers, UnitDecoded};
 
 // The bands in a payload, stored from place `at` of the lent words on, and how many words they take.
 // Ruled out: a count set on a refusal.
@@ -49,5 +54,138 @@ pub extern "C" fn vobsub_extract_spu(
             0
         }
         UnitAnswer::Refused(number) => number,
+    }
+}
+
+// Where the body of a PES starts.
+// Ruled out: a place set where there is no body; the body's length for its place.
+#[no_mangle]
+pub extern "C" fn vobsub_parse_pes_body(pes: &[u8], body: &mut usize) -> u8
+    ensures { λ r. ⌜ BodyFound (now (pes .entry)) (now (body .entry)) r (now (body .exit)) ⌝ }
+{
+    let mut found = false;
+    let rest = ps::parse_pes_body(pes, &mut found);
+    if found {
+        *body = pes.len() - rest.len();
+        return 0;
+    }
+    NO_UNIT
+}
+
+// The rows start_row, start_row + 2, .. of a map of that width and height, and how many codes they have.
+// Ruled out: a number of codes set on a refusal.
+#[no_mangle]
+pub extern "C" fn vobsub_decode_rle_field(
+    field: &[u8],
+    width: usize,
+    height: usize,
+    start_row: usize,
+    pixels: &mut [u8],
+    codes: &mut usize,
+) -> u8
+    ensures { λ r. ⌜ FieldDecoded (now (field .entry)) width height «start_row» (now (pixels .entry)) (now (codes .entry)) r (now (pixels .exit)) (now (codes .exit)) ⌝ }
+{
+    match rle::decode_rle_field(field, width, height, start_row, pixels) {
+        FieldAnswer::Rows(counts) => {
+            *codes = counts.codes;
+            0
+        }
+        FieldAnswer::Refused(number) => number,
+    }
+}
+
+// 1 for true.
+fn flag(b: bool) -> usize
+    ensures { λ r. ⌜ r ≡ cond b 1 0 ⌝ }
+{
+    if b { 1 } else { 0 }
+}
+
+// The numbers of a record, in the order of include/vobsub.h.
+fn in_order(
+    x1: u16,
+    y1: u16,
+    x2: u16,
+    y2: u16,
+    palette_sel: u16,
+    alpha: u16,
+    started: bool,
+    start_delay_raw: u16,
+    stopped: bool,
+    stop_delay_raw: u16,
+    forced_display: bool,
+    top_rle_off: u16,
+    bot_rle_off: u16,
+    saw_chg_colcon: bool,
+    band_words: usize,
+    codes: usize,
+) -> [usize; 16]
+    ensures { λ r. ⌜ r ≡ spuNumbers (record { x1 = x1; y1 = y1; x2 = x2; y2 = y2; «palette_sel» = «palette_sel»; alpha = alpha; started = started; «start_delay_raw» = «start_delay_raw»; stopped = stopped; «stop_delay_raw» = «stop_delay_raw»; «forced_display» = «forced_display»; «top_rle_off» = «top_rle_off»; «bot_rle_off» = «bot_rle_off»; «saw_chg_colcon» = «saw_chg_colcon»; «band_words» = «band_words»; codes = codes }) ⌝ }
+{
+    let starts = flag(started);
+    let stops = flag(stopped);
+    let forced = flag(forced_display);
+    let changed = flag(saw_chg_colcon);
+    [
+        x1 as usize,
+        y1 as usize,
+        x2 as usize,
+        y2 as usize,
+        palette_sel as usize,
+        alpha as usize,
+        starts,
+        start_delay_raw as usize,
+        stops,
+        stop_delay_raw as usize,
+        forced,
+        top_rle_off as usize,
+        bot_rle_off as usize,
+        changed,
+        band_words,
+        codes,
+    ]
+}
+
+// Ruled out: first and last line in each other's place.
+fn numbers_of(s: Spu) -> [usize; 16]
+    ensures { λ r. ⌜ r ≡ spuNumbers s ⌝ }
+{
+    in_order(
+        s.x1,
+        s.y1,
+        s.x2,
+        s.y2,
+        s.palette_sel,
+        s.alpha,
+        s.started,
+        s.start_delay_raw,
+        s.stopped,
+        s.stop_delay_raw,
+        s.forced_display,
+        s.top_rle_off,
+        s.bot_rle_off,
+        s.saw_chg_colcon,
+        s.band_words,
+        s.codes,
+    )
+}
+
+// A unit's picture as colour numbers in the front of `pixels`, its bands in the front of `words`, and the numbers of its record.
+// Ruled out: a record stored on a refusal; a unit accepted whose record is left as found.
+#[no_mangle]
+pub extern "C" fn vobsub_parse_and_decode_spu(
+    unit: &[u8],
+    pixels: &mut [u8],
+    words: &mut [u16],
+    numbers: &mut [usize; 16],
+) -> u8
+    ensures { λ r. ⌜ UnitDecoded (now (unit .entry)) (now (pixels .entry)) (now (words .entry)) (now (numbers .entry)) r (now (pixels .exit)) (now (words .exit)) (now (numbers .exit)) ⌝ }
+{
+    match spu::parse_and_decode_spu(unit, pixels, words) {
+        SpuAnswer::Shows(s) => {
+            *numbers = numbers_of(s);
+            0
+        }
+        SpuAnswer::Refused(number) => number,
     }
 }

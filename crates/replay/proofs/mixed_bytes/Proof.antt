@@ -1,0 +1,52 @@
+-- `replay::mixed_bytes` is safe and ends: the place is within the bytes. Assumes nothing.
+use borrow.Author.Needs.{needs}
+use native.Mathlib.Omega.{arith}
+use Prim.Native.Nat.{_≤_, _-_}
+use lib.ListN.{length}
+use Rattle.replay.proofs.mixed_bytes.Statement.{statement}
+use Rattle.replay.proofs.mixed_bytes.Tie as tie
+
+abbrev Inv-loop : tie.InvT-loop
+Inv-loop sum s t₀ i₀ t i = i ≤ length s
+
+abbrev μ-loop : tie.MeasureT-loop
+μ-loop sum s t₀ i₀ t i = length s - i
+
+loop-holds : tie.Need-loop-holds Inv-loop μ-loop
+loop-holds c = search needs
+
+shared-slice-read-mixed : tie.Need-shared-slice-read-mixed Inv-loop μ-loop
+shared-slice-read-mixed c = search needs
+
+cast-mixed : tie.Need-cast-mixed Inv-loop μ-loop
+cast-mixed c = omega (arith, c .shared-slice-known2 .given (c .before .before .loop .i))
+
+mixed-requires : tie.Need-mixed-requires Inv-loop μ-loop
+mixed-requires c κs = search needs
+
+add-i : tie.Need-add-i Inv-loop μ-loop
+add-i c = search needs
+
+loop-less : tie.Need-loop-less Inv-loop μ-loop
+loop-less c = search needs
+
+loop-again : tie.Need-loop-again Inv-loop μ-loop
+loop-again c = search needs
+
+returns : tie.Need-returns Inv-loop μ-loop
+returns c = search needs
+
+pub mixed-bytes-spec : {M : Type 1} → statement M
+mixed-bytes-spec =
+    tie.close
+    (tie.spec
+    Inv-loop
+    μ-loop
+    loop-holds
+    shared-slice-read-mixed
+    cast-mixed
+    mixed-requires
+    add-i
+    loop-less
+    loop-again
+    returns)

@@ -1,0 +1,275 @@
+// Replays the fixed list of the oracle's answers (standard input; oracle/src/bin/list.rs makes it and says how it is laid out) through the
+// exported functions, and writes a line for each class: how many rows there are, and how many are answered otherwise.
+use libc::STDIN_FILENO;
+use libc::STDOUT_FILENO;
+
+// What lent memory holds before a call.
+const BYTE: u8 = 0xA5;
+
+const WORD: u16 = 0xA5C3;
+
+const NUMBER: usize = 0xA5C35A3C0FF09669;
+
+// What a row of the list expects: the refusal, and the sum over all that a call gives and all that was lent to it.
+struct Expected {
+    refusal: u8,
+    sum: u64,
+}
+
+fn mixed(sum: u64, v: u64) -> u64 {
+    let s = sum % 4294967291;
+    (s * 31 + v % 1000003) % 4294967291
+}
+
+fn mixed_bytes(sum: u64, s: &[u8]) -> u64 {
+    let mut t = sum;
+    let mut i = 0;
+    while i < s.len() {
+        t = mixed(t, s[i] as u64);
+        i += 1;
+    }
+    t
+}
+
+fn mixed_words(sum: u64, s: &[u16]) -> u64 {
+    let mut t = sum;
+    let mut i = 0;
+    while i < s.len() {
+        t = mixed(t, s[i] as u64);
+        i += 1;
+    }
+    t
+}
+
+fn mixed_numbers(sum: u64, s: &[usize; 16]) -> u64 {
+    let mut t = sum;
+    let mut i = 0;
+    while i < 16 {
+        t = mixed(t, s[i] as u64);
+        i += 1;
+    }
+    t
+}
+
+fn as_expected(e: Expected, refusal: u8, sum: u64) -> bool {
+    if refusal != e.refusal {
+        return false;
+    }
+    sum == e.sum
+}
+
+fn pes(bytes: &[u8], e: Expected) -> bool {
+    let mut body: usize = NUMBER;
+    let r = vobsub_c::vobsub_parse_pes_body(bytes, &mut body);
+    as_expected(e, r, mixed(1, body as u64))
+}
+
+fn packets(bytes: &[u8], position: usize, scratch: &mut [u8], e: Expected) -> bool {
+    let mut length: usize = NUMBER;
+    let mut joined: u8 = BYTE;
+    let r = vobsub_c::vobsub_extract_spu(bytes, position, scratch, &mut length, &mut joined);
+    let s = mixed(mixed(1, length as u64), joined as u64);
+    as_expected(e, r, mixed_bytes(s, scratch))
+}
+
+fn bands(bytes: &[u8], at: usize, words: &mut [u16], e: Expected) -> bool {
+    let mut count: usize = NUMBER;
+    let r = vobsub_c::vobsub_parse_chg_colcon_payload(bytes, words, at, &mut count);
+    as_expected(e, r, mixed_words(mixed(1, count as u64), words))
+}
+
+fn field(
+    bytes: &[u8],
+    width: usize,
+    height: usize,
+    start: usize,
+    map: &mut [u8],
+    e: Expected,
+) -> bool {
+    let mut codes: usize = NUMBER;
+    let r = vobsub_c::vobsub_decode_rle_field(bytes, width, height, start, map, &mut codes);
+    as_expected(e, r, mixed_bytes(mixed(1, codes as u64), map))
+}
+
+fn unit(bytes: &[u8], map: &mut [u8], words: &mut [u16], e: Expected) -> bool {
+    let mut numbers: [usize; 16] = [NUMBER; 16];
+    let r = vobsub_c::vobsub_parse_and_decode_spu(bytes, map, words, &mut numbers);
+    let s = mixed_numbers(1, &numbers);
+    as_expected(e, r, mixed_words(mixed_bytes(s, map), words))
+}
+
+fn packets_front(
+    bytes: &[u8],
+    position: usize,
+    scratch: &mut [u8],
+    room: usize,
+    e: Expected,
+) -> bool {
+    if room <= scratch.len() {
+        return packets(bytes, position, &mut scratch[..room], e);
+    }
+    false
+}
+
+fn bands_front(bytes: &[u8], at: usize, words: &mut [u16], room: usize, e: Expected) -> bool {
+    if room <= words.len() {
+        return bands(bytes, at, &mut words[..room], e);
+    }
+    false
+}
+
+fn field_front(
+    bytes: &[u8],
+    width: usize,
+    height: usize,
+    start: usize,
+    map: &mut [u8],
+    room: usize,
+    e: Expected,
+) -> bool {
+    if room <= map.len() {
+        return field(bytes, width, height, start, &mut map[..room], e);
+    }
+    false
+}
+
+fn unit_words(bytes: &[u8], map: &mut [u8], words: &mut [u16], more: usize, e: Expected) -> bool {
+    if more <= words.len() {
+        return unit(bytes, map, &mut words[..more], e);
+    }
+    false
+}
+
+fn unit_front(
+    bytes: &[u8],
+    map: &mut [u8],
+    room: usize,
+    words: &mut [u16],
+    more: usize,
+    e: Expected,
+) -> bool {
+    if room <= map.len() {
+        return unit_words(bytes, &mut map[..room], words, more, e);
+    }
+    false
+}
+
+fn word_of(a: u8, b: u8) -> usize {
+    a as usize * 256 + b as usize
+}
+
+fn long_of(a: u8, b: u8, c: u8, d: u8) -> u64 {
+    ((a as u64 * 256 + b as u64) * 256 + c as u64) * 256 + d as u64
+}
+
+// The row of a class with these bytes and four numbers.
+fn row(class: u8, bytes: &[u8], a: usize, b: usize, c: usize, d: usize, e: Expected) -> bool {
+    let mut map = [BYTE; 8192];
+    let mut words = [WORD; 1024];
+    if class == 1 {
+        return pes(bytes, e);
+    }
+    if class == 2 {
+        return packets_front(bytes, a, &mut map, b, e);
+    }
+    if class == 3 {
+        return bands_front(bytes, a, &mut words, b, e);
+    }
+    if class == 4 {
+        return field_front(bytes, a, b, c, &mut map, d, e);
+    }
+    if class == 5 {
+        return unit_front(bytes, &mut map, a, &mut words, b, e);
+    }
+    false
+}
+
+// Whether the input has bytes for all of s.
+fn read_all(s: &mut [u8]) -> bool {
+    io::read_full(STDIN_FILENO, s) == s.len()
+}
+
+fn read_row(head: [u8; 16], bytes: &mut [u8]) -> bool {
+    if !read_all(bytes) {
+        return false;
+    }
+    let e = Expected {
+        refusal: head[1],
+        sum: long_of(head[12], head[13], head[14], head[15]),
+    };
+    row(
+        head[0],
+        bytes,
+        word_of(head[4], head[5]),
+        word_of(head[6], head[7]),
+        word_of(head[8], head[9]),
+        word_of(head[10], head[11]),
+        e,
+    )
+}
+
+fn read_front(head: [u8; 16], bytes: &mut [u8], length: usize) -> bool {
+    if length <= bytes.len() {
+        return read_row(head, &mut bytes[..length]);
+    }
+    false
+}
+
+// Whether the next row of the list is answered as it expects.
+fn next_row() -> bool {
+    let mut head = [0; 16];
+    let mut bytes = [0; 4096];
+    if !read_all(&mut head) {
+        return false;
+    }
+    read_front(head, &mut bytes, word_of(head[2], head[3]))
+}
+
+// The number of rows answered otherwise, after one more row.
+fn counted(differ: usize, good: bool) -> usize {
+    if good {
+        return differ;
+    }
+    if differ < 65536 {
+        return differ + 1;
+    }
+    differ
+}
+
+// As many rows as the next two bytes of the list say.
+fn class(name: &[u8]) {
+    let mut head = [0; 2];
+    let there = read_all(&mut head);
+    let count = word_of(head[0], head[1]);
+    let mut done: usize = 0;
+    let mut differ: usize = 0;
+    while done < count {
+        differ = counted(differ, next_row());
+        done += 1;
+    }
+    io::write_all(STDOUT_FILENO, name);
+    if there {
+        io::write_all(STDOUT_FILENO, b": replayed ");
+    } else {
+        io::write_all(STDOUT_FILENO, b": no list, ");
+    }
+    io::print_decimal(STDOUT_FILENO, done as u64);
+    io::write_all(STDOUT_FILENO, b", ");
+    io::print_decimal(STDOUT_FILENO, differ as u64);
+    io::write_all(STDOUT_FILENO, b" differ\n");
+}
+
+fn main() {
+    // how the list was made, in words
+    let mut words = [0; 128];
+    let there = read_all(&mut words);
+    if there {
+        io::write_all(STDOUT_FILENO, &words);
+    }
+    class(b"pes");
+    class(b"packets");
+    class(b"bands");
+    class(b"control");
+    class(b"fields");
+    class(b"units");
+}

@@ -1,0 +1,49 @@
+-- `vobsub_c::vobsub_decode_rle_field` meets its contract: the answer of the layer, taken apart. Assumes nothing.
+use Prim.Native.Nat.{ℕ}
+use mathlib.Core.Path.{_≡_, sym, ap, _∙_}
+use mathlib.Core.List.{List}
+use borrow.Author.Needs.{needs}
+use Rattle.rle.specs.Answers.{Decoded}
+use Rattle.rle.specs.declared.FieldAnswer.{FieldAnswer}
+use Rattle.vobsub_c.specs.Answers.{fieldRefusal, fieldCodes, FieldDecoded}
+use Rattle.vobsub_c.proofs.vobsub_decode_rle_field.Statement.{statement}
+use Rattle.vobsub_c.proofs.vobsub_decode_rle_field.Tie as tie
+
+-- what is left where the layer's answer is known
+given : (f : List ℕ) (w h s : ℕ) (px px′ : List ℕ) (n : ℕ) (a b : FieldAnswer) → a ≡ b → Decoded f w h s px a px′ → FieldDecoded f w h s px n (fieldRefusal b) px′ (fieldCodes b n)
+given f w h s px px′ n a b e q =
+    let h = sym e ∙ q .answer in
+    record { refusal = ap fieldRefusal h; codes = ap (λ (o : FieldAnswer). fieldCodes o n) h; stores = q .pixels }
+
+decode-rle-field-requires : tie.Need-decode-rle-field-requires
+decode-rle-field-requires c κs = search needs
+
+enum-known-counts : tie.Need-enum-known-counts
+enum-known-counts c = search needs
+
+enum-known-number : tie.Need-enum-known-number
+enum-known-number c = search needs
+
+same-length : tie.Need-same-length
+same-length c = search needs
+
+returns : tie.Need-returns
+returns c = given _ _ _ _ _ _ _ _ _ (c .before .counts .given .1) (c .before .before .before .before .before .decode-rle-field .ensures)
+
+same-length-2 : tie.Need-same-length-2
+same-length-2 c = search needs
+
+returns-2 : tie.Need-returns-2
+returns-2 c = given _ _ _ _ _ _ _ _ _ (c .before .number .given .1) (c .before .before .before .before .before .decode-rle-field .ensures)
+
+pub vobsub-decode-rle-field-spec : {M : Type 1} → statement M
+vobsub-decode-rle-field-spec =
+    tie.close
+    (tie.spec
+    decode-rle-field-requires
+    enum-known-counts
+    enum-known-number
+    same-length
+    returns
+    same-length-2
+    returns-2)

@@ -1,0 +1,98 @@
+// Takes the original from beside the repository (or from the folder that VOBSUB_ORIGINAL names) into the build's own folder: private items
+// opened, and an adapter appended. Nothing else is changed, but in the copies that are meant to differ: one that counts codes, and, with the
+// feature `mutants`, one for each line of mutants.txt.
+use std::env;
+use std::fs;
+use std::path::{Path, PathBuf};
+
+// Functions and structs of the module itself start a line.
+fn opened(text: &str) -> String {
+    let mut out = String::new();
+    for line in text.lines() {
+        if line.starts_with("fn ") || line.starts_with("struct ") {
+            out.push_str("pub ");
+        }
+        out.push_str(line);
+        out.push('\n');
+    }
+    out
+}
+
+// Where the function of that name starts and ends: it starts a line, and so does its last brace.
+fn place_of(text: &str, name: &str) -> (usize, usize) {
+    let mut start = None;
+    for head in [format!("\npub fn {name}("), format!("\nfn {name}(")] {
+        start = start.or(text.find(&head));
+    }
+    let start = start.unwrap_or_else(|| panic!("no function {name}"));
+    let end = start + text[start..].find("\n}\n").expect("an end");
+    (start, end)
+}
+
+// The text with one token of a function replaced, where it stands for the n-th time, comments left out of the count.
+fn changed(text: &str, function: &str, token: &str, nth: usize, by: &str) -> String {
+    let (start, end) = place_of(text, function);
+    let mut at = start;
+    let mut seen = 0;
+    for line in text[start..end].split_inclusive('\n') {
+        if !line.trim_start().starts_with("//") {
+            let mut from = 0;
+            while let Some(found) = line[from..].find(token) {
+                seen += 1;
+                if seen == nth {
+                    let place = at + from + found;
+                    return format!("{}{}{}", &text[..place], by, &text[place + token.len()..]);
+                }
+                from += found + token.len();
+            }
+        }
+        at += line.len();
+    }
+    panic!("{function} has {token} {seen} times, not {nth}");
+}
+
+fn write(out: &Path, name: &str, text: &str, adapter: &str) -> String {
+    let path = out.join(format!("{name}.rs"));
+    fs::write(&path, format!("{text}\n{adapter}")).expect("a file of the build");
+    format!("#[path = {path:?}]\n#[allow(warnings)]\npub mod {name};\n")
+}
+
+fn main() {
+    let here = PathBuf::from(env::var("CARGO_MANIFEST_DIR").unwrap());
+    let repository = here.parent().unwrap().to_path_buf();
+    let out = PathBuf::from(env::var("OUT_DIR").unwrap());
+    let folder = env::var("VOBSUB_ORIGINAL").map(PathBuf::from).unwrap_or_else(|_| repository.join("../shared/docs/src"));
+    let path = folder.join("src/vobsub.rs");
+    let library = repository.join("target/staticlib");
+    println!("cargo:rerun-if-env-changed=VOBSUB_ORIGINAL");
+    for file in [&path, &library.join("libvobsub_c.a"), &here.join("mutants.txt"), &here.join("src/adapter.rs")] {
+        println!("cargo:rerun-if-changed={}", file.display());
+    }
+    println!("cargo:rustc-link-search=native={}", library.display());
+    println!("cargo:rustc-link-lib=static=vobsub_c");
+
+    let text = fs::read_to_string(&path).unwrap_or_else(|e| panic!("the original, {}: {e}", path.display()));
+    let text = opened(&text);
+    let adapter = fs::read_to_string(here.join("src/adapter.rs")).expect("the adapter");
+    let mut modules = write(&out, "original", &text, &adapter);
+
+    // every turn of the field decoder's loop reads one code
+    let counting = changed(&text, "decode_rle_field", "while row < height {", 1, "while row < height { crate::count_a_code();");
+    modules += &write(&out, "counting", &counting, &adapter);
+
+    modules += "pub const MUTANTS: &[(&str, crate::side::Side)] = &[\n";
+    let mut mutants = String::new();
+    if env::var("CARGO_FEATURE_MUTANTS").is_ok() {
+        let lines = fs::read_to_string(here.join("mutants.txt")).expect("mutants.txt");
+        for (i, line) in lines.lines().filter(|l| !l.is_empty() && !l.starts_with('#')).enumerate() {
+            let parts: Vec<&str> = line.split('\t').collect();
+            let [function, token, nth, by] = parts[..] else { panic!("a line of mutants.txt: {line}") };
+            let name = format!("mutant_{i}");
+            mutants += &write(&out, &name, &changed(&text, function, token, nth.parse().unwrap(), by), &adapter);
+            modules += &format!("    ({:?}, {name}::adapter::SIDE),\n", format!("{function}: {token} ({nth}) for {by}"));
+        }
+    }
+    modules += "];\n";
+    modules += &mutants;
+    fs::write(out.join("variants.rs"), modules).expect("a file of the build");
+}

@@ -1,0 +1,78 @@
+// Appended to each copy of the original: its functions in the terms of a side.
+use crate::oxideav_core;
+
+pub mod adapter {
+    use super::*;
+    use crate::side::{Decoded, Side, Spot};
+
+    fn word(four: [u8; 4]) -> u16 {
+        four.iter().fold(0, |w, &n| w << 4 | n as u16)
+    }
+
+    fn words(bands: &[ChgColConBand]) -> Vec<u16> {
+        let mut out = Vec::new();
+        for band in bands {
+            out.extend([band.csln, band.ctln, band.entries.len() as u16]);
+            for entry in &band.entries {
+                out.extend([entry.start_col, word(entry.palette_sel), word(entry.alpha)]);
+            }
+        }
+        out
+    }
+
+    fn pes_body(pes: &[u8]) -> Option<usize> {
+        parse_pes_body(pes).map(|body| pes.len() - body.len())
+    }
+
+    fn spot(file: &[u8], position: usize) -> Spot {
+        let one = VobSubIdx::default().with_cues(vec![(0, position as u64)]);
+        match build_packets(&one, file).pop_front() {
+            None => Spot::Skipped,
+            Some(packet) => {
+                let rest = &file[position..];
+                match extract_spu(rest) {
+                    None => Spot::None { handed_on: packet.data == rest },
+                    Some(unit) => Spot::Unit { same: packet.data == unit, joined: extract_spu_from_ps(rest).is_some(), unit },
+                }
+            }
+        }
+    }
+
+    fn bands(payload: &[u8]) -> std::result::Result<Vec<u16>, String> {
+        parse_chg_colcon_payload(payload).map(|b| words(&b)).map_err(|e| e.to_string())
+    }
+
+    fn field(field: &[u8], width: usize, height: usize, start: usize, map: &mut [u8]) -> std::result::Result<(), String> {
+        decode_rle_field(field, width, height, start, 2, map).map_err(|e| e.to_string())
+    }
+
+    fn unit(bytes: &[u8]) -> std::result::Result<Decoded, String> {
+        let (spu, map, (width, height)) = parse_and_decode_spu(bytes).map_err(|e| e.to_string())?;
+        let words = words(&spu.chg_colcon);
+        let numbers = [
+            spu.x1 as usize,
+            spu.y1 as usize,
+            spu.x2 as usize,
+            spu.y2 as usize,
+            word(spu.palette_sel) as usize,
+            word(spu.alpha) as usize,
+            0,
+            spu.start_delay_raw as usize,
+            0,
+            spu.stop_delay_raw as usize,
+            spu.forced_display as usize,
+            spu.top_rle_off as usize,
+            spu.bot_rle_off as usize,
+            spu.saw_chg_colcon as usize,
+            words.len(),
+            0,
+        ];
+        Ok(Decoded { numbers, width: width as usize, height: height as usize, map, words })
+    }
+
+    fn positions(text: &str) -> Vec<usize> {
+        parse_idx(text).map(|idx| idx.cues.iter().map(|c| c.1 as usize).collect()).unwrap_or_default()
+    }
+
+    pub const SIDE: Side = Side { pes_body, spot, bands, field, unit, positions };
+}

@@ -1,0 +1,156 @@
+// Makes the fixed list of answers that crates/replay replays: `list FILE`. Run again it gives the same bytes.
+//
+// The list: 128 bytes of text that say how it was made; then for each class in the order of `classes::all` a word with the number of its rows,
+// and its rows. A row is 16 bytes and the request's bytes: which function is asked (1 pes, 2 packets, 3 bands, 4 fields, 5 units), the refusal,
+// a word with the number of bytes, four words with the request's numbers, and four bytes with the sum over the answer.
+//
+// Only requests on which both sides agree (or that a rule covers) go into the list, so many for each answer.
+use oracle::class::{BYTE, Class, NUMBER, Request, Sum, WORD, World};
+use oracle::classes;
+use oracle::port;
+use oracle::random::Random;
+use oracle::side::Side;
+use std::collections::BTreeMap;
+
+const SEED: u64 = 7;
+const EACH: usize = 90;
+const LONGEST: usize = 240;
+
+// The numbers of a request as the list has them: for units, how many bytes and words are lent.
+fn numbers(class: &Class, side: &Side, q: &Request) -> [usize; 4] {
+    if kind(class) != 5 {
+        return q.n;
+    }
+    match (side.unit)(&q.bytes) {
+        Ok(d) => [lent(q.n[0], d.map.len()), lent(q.n[1], d.words.len()), 0, 0],
+        Err(_) => [if q.n[0] > 1 { 0 } else { 2048 }, 256, 0, 0],
+    }
+}
+
+fn lent(mode: usize, need: usize) -> usize {
+    match mode {
+        0 => need,
+        1 => need + 3,
+        2 => need.saturating_sub(1),
+        _ => 0,
+    }
+}
+
+fn kind(class: &Class) -> u8 {
+    match class.name {
+        "pes" => 1,
+        "packets" => 2,
+        "bands" => 3,
+        "fields" => 4,
+        _ => 5,
+    }
+}
+
+// What crates/replay does with a row: the refusal, and the sum over what the call gives and what was lent to it.
+fn answer(kind: u8, bytes: &[u8], n: [usize; 4]) -> (u8, u64) {
+    let mut sum = Sum::default();
+    let refusal = match kind {
+        1 => {
+            let mut body = NUMBER;
+            let refusal = port::pes_body(bytes, &mut body);
+            sum.add(body);
+            refusal
+        }
+        2 => {
+            let (mut scratch, mut length, mut joined) = (vec![BYTE; n[1]], NUMBER, BYTE);
+            let refusal = port::extract_spu(bytes, n[0], &mut scratch, &mut length, &mut joined);
+            sum.add(length);
+            sum.add(joined as usize);
+            sum.all(&scratch);
+            refusal
+        }
+        3 => {
+            let (mut words, mut count) = (vec![WORD; n[1]], NUMBER);
+            let refusal = port::bands(bytes, &mut words, n[0], &mut count);
+            sum.add(count);
+            sum.all(&words);
+            refusal
+        }
+        4 => {
+            let (mut map, mut codes) = (vec![BYTE; n[3]], NUMBER);
+            let refusal = port::field(bytes, n[0], n[1], n[2], &mut map, &mut codes);
+            sum.add(codes);
+            sum.all(&map);
+            refusal
+        }
+        _ => {
+            let (mut map, mut words, mut numbers) = (vec![BYTE; n[0]], vec![WORD; n[1]], [NUMBER; port::NUMBERS]);
+            let refusal = port::unit(bytes, &mut map, &mut words, &mut numbers);
+            for v in numbers {
+                sum.add(v);
+            }
+            sum.all(&map);
+            sum.all(&words);
+            refusal
+        }
+    };
+    (refusal, sum.0)
+}
+
+fn rows(class: &Class, world: &World, side: &Side) -> (usize, Vec<u8>) {
+    let mut out = Vec::new();
+    let mut met: BTreeMap<u8, usize> = BTreeMap::new();
+    let mut count = 0;
+    for i in 0..60_000 {
+        let q = (class.generate)(world, &mut Random::of(SEED, class.name, i));
+        let n = numbers(class, side, &q);
+        let room = match kind(class) {
+            2 | 3 => n[1],
+            4 => n[3],
+            5 => n[0].max(n[1]),
+            _ => 0,
+        };
+        if q.bytes.len() > LONGEST || room > 1000 && kind(class) != 5 || room > 2048 || n[1] > 1000 && kind(class) == 5 || n.iter().any(|&v| v > 65535) {
+            continue;
+        }
+        let o = (class.compare)(side, &q);
+        assert!(o.differs.is_none() && (o.panicked.is_none() || o.rule.is_some()), "{} {i} differs", class.name);
+        let (refusal, sum) = answer(kind(class), &q.bytes, n);
+        // a refused unit is lent so much here that it may be refused for that
+        if refusal != o.refusal {
+            continue;
+        }
+        let quota = if refusal == 0 { 4 * EACH } else { EACH };
+        let seen = met.entry(refusal).or_default();
+        if *seen >= quota {
+            continue;
+        }
+        *seen += 1;
+        count += 1;
+        out.extend([kind(class), refusal]);
+        for word in [q.bytes.len(), n[0], n[1], n[2], n[3]] {
+            out.extend((word as u16).to_be_bytes());
+        }
+        out.extend((sum as u32).to_be_bytes());
+        out.extend(&q.bytes);
+    }
+    let met: Vec<String> = met.iter().map(|(r, c)| format!("{r}: {c}")).collect();
+    println!("{}: {count} rows ({})", class.name, met.join(", "));
+    (count, out)
+}
+
+fn main() {
+    let Some(path) = std::env::args().nth(1) else { panic!("list FILE") };
+    std::panic::set_hook(Box::new(|info| {
+        if info.location().is_some_and(|l| l.file().ends_with("list.rs")) {
+            eprintln!("{info}");
+        }
+    }));
+    let (world, side) = (World::new(), oracle::original::adapter::SIDE);
+    let mut out = format!("answers of the original beside the port, made by oracle/list from seed {SEED}, up to {EACH} for each refusal").into_bytes();
+    assert!(out.len() < 128);
+    out.resize(127, b' ');
+    out.push(b'\n');
+    for class in classes::all() {
+        let (count, rows) = rows(&class, &world, &side);
+        out.extend((count as u16).to_be_bytes());
+        out.extend(rows);
+    }
+    println!("{} bytes", out.len());
+    std::fs::write(&path, out).expect("the list");
+}

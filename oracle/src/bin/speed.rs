@@ -1,0 +1,205 @@
+// Times the original and the port on the same inputs, in turn, in one run. A ratio above 1 says that the port is the faster one.
+use oracle::classes::unit::{area, put, set_word};
+use oracle::original;
+use oracle::port;
+use oracle::titles::{Title, titles};
+use std::hint::black_box;
+
+const ROUNDS: usize = 31;
+const LEAST: f64 = 0.01;
+
+#[repr(C)]
+struct Timespec {
+    seconds: i64,
+    nanoseconds: i64,
+}
+
+unsafe extern "C" {
+    fn clock_gettime(clock: i32, time: *mut Timespec) -> i32;
+}
+
+// The processor time of this thread, so that what else runs on the machine counts less.
+fn now() -> f64 {
+    let mut t = Timespec { seconds: 0, nanoseconds: 0 };
+    // CLOCK_THREAD_CPUTIME_ID of Linux
+    assert_eq!(unsafe { clock_gettime(3, &mut t) }, 0);
+    t.seconds as f64 + t.nanoseconds as f64 * 1e-9
+}
+
+struct Lent {
+    scratch: Vec<u8>,
+    map: Vec<u8>,
+    words: Vec<u16>,
+    numbers: [usize; port::NUMBERS],
+}
+
+fn seconds(turns: usize, f: &mut dyn FnMut()) -> f64 {
+    let start = now();
+    for _ in 0..turns {
+        f();
+    }
+    (now() - start) / turns as f64
+}
+
+fn median(times: &mut [f64]) -> f64 {
+    times.sort_by(f64::total_cmp);
+    times[times.len() / 2]
+}
+
+fn shown(t: f64) -> String {
+    if t >= 1e-3 { format!("{:.2} ms", t * 1e3) } else { format!("{:.2} us", t * 1e6) }
+}
+
+// Times both in turn, as often as makes a round long enough to be measured. A word on the command line leaves out the names without it.
+fn beside(name: &str, original: &mut dyn FnMut(), port: &mut dyn FnMut()) {
+    if std::env::args().nth(1).is_some_and(|word| !name.contains(&word)) {
+        return;
+    }
+    let once = seconds(1, original).max(seconds(1, port)).max(1e-9);
+    let turns = (LEAST / once).ceil().max(1.0) as usize;
+    let (mut theirs, mut ours, mut ratios) = (Vec::new(), Vec::new(), Vec::new());
+    let rounds = if once > 0.1 { 5 } else { ROUNDS };
+    for _ in 0..rounds {
+        let a = seconds(turns, original);
+        let b = seconds(turns, port);
+        theirs.push(a);
+        ours.push(b);
+        ratios.push(a / b);
+    }
+    let ratio = median(&mut ratios);
+    let quarter = rounds / 4;
+    println!(
+        "{name}: original {}, port {}, ratio {ratio:.2} (half of the rounds {:.2} to {:.2}; least {:.2}, most {:.2})",
+        shown(median(&mut theirs)),
+        shown(median(&mut ours)),
+        ratios[quarter],
+        ratios[rounds - 1 - quarter],
+        ratios[0],
+        ratios[rounds - 1]
+    );
+}
+
+// All units, to record, map and words. The original makes its map anew, cleared, and its bands; the port's are lent, and the part of the map
+// that a unit needs is cleared before each call, though the port does not ask for that.
+fn decode(name: &str, units: &[Vec<u8>], lent: &mut Lent) {
+    let needs: Vec<usize> = units.iter().map(|u| original::parse_and_decode_spu(u).map_or(0, |d| d.1.len())).collect();
+    beside(
+        name,
+        &mut || {
+            for unit in units {
+                black_box(original::parse_and_decode_spu(black_box(unit)).is_ok());
+            }
+        },
+        &mut || {
+            for (unit, &need) in units.iter().zip(&needs) {
+                lent.map[..need].fill(0);
+                let refusal = port::unit(black_box(unit), &mut lent.map, &mut lent.words, &mut lent.numbers);
+                assert_eq!(refusal, 0);
+            }
+        },
+    );
+}
+
+fn extract(name: &str, title: &Title, lent: &mut Lent) {
+    let (file, positions) = (&title.file, &title.positions);
+    beside(
+        name,
+        &mut || {
+            for &p in positions {
+                black_box(original::extract_spu(black_box(&file[p..])).map(|u| u.len()));
+            }
+        },
+        &mut || {
+            for &p in positions {
+                let (mut length, mut joined) = (0, 0);
+                let refusal = port::extract_spu(black_box(file), p, &mut lent.scratch, &mut length, &mut joined);
+                assert_eq!(refusal, 0);
+                black_box(length);
+            }
+        },
+    );
+}
+
+// The layers alone: the payload of the long band list, and one field of the codes of one nibble.
+fn layers(lent: &mut Lent) {
+    let unit = many_bands();
+    let payload = &unit[11..];
+    let mut count = 0;
+    beside(
+        "16,380 bands, the payload alone",
+        &mut || {
+            black_box(original::parse_chg_colcon_payload(black_box(payload)).is_ok());
+        },
+        &mut || assert_eq!(port::bands(black_box(payload), &mut lent.words, 0, &mut count), 0),
+    );
+    let unit = one_nibble();
+    let (field, width, height) = (&unit[4..65518], 4096, 62);
+    let mut theirs = vec![0; width * height];
+    let mut codes = 0;
+    beside(
+        "codes of one nibble, one field",
+        &mut || {
+            theirs.fill(0);
+            black_box(original::decode_rle_field(black_box(field), width, height, 0, 2, &mut theirs).is_ok());
+        },
+        &mut || {
+            lent.map[..width * height].fill(0);
+            assert_eq!(port::field(black_box(field), width, height, 0, &mut lent.map, &mut codes), 0);
+        },
+    );
+}
+
+fn headed(mut unit: Vec<u8>, control: usize) -> Vec<u8> {
+    let length = unit.len();
+    set_word(&mut unit, 0, length);
+    set_word(&mut unit, 2, control);
+    unit
+}
+
+// Blocks of four bytes, each the commands `01` and `03` of all blocks before it.
+fn overlapping(length: usize) -> Vec<u8> {
+    let mut unit = vec![0; 4];
+    while unit.len() + 4 <= length {
+        let next = unit.len() + 4;
+        unit.extend([0x01, 0x03]);
+        put(&mut unit, next);
+    }
+    headed(unit, 4)
+}
+
+// A colour change with as many bands as a unit holds.
+fn many_bands() -> Vec<u8> {
+    let mut unit = vec![0, 0, 0, 0, 0, 0, 0, 4, 0x07];
+    let size = (65535 - unit.len()) / 4 * 4 - 2;
+    put(&mut unit, size);
+    unit.resize(9 + size, 0);
+    headed(unit, 4)
+}
+
+// Codes of one nibble and one pixel, as many as a unit holds; both fields read the same bytes.
+fn one_nibble() -> Vec<u8> {
+    let mut unit = vec![0x55; 65535 - 17];
+    let control = unit.len();
+    put(&mut unit, 0);
+    put(&mut unit, control);
+    area(&mut unit, 0, 4095, 0, 61);
+    unit.push(0x06);
+    put(&mut unit, 4);
+    put(&mut unit, 4);
+    unit.push(0xFF);
+    headed(unit, control)
+}
+
+fn main() {
+    let mut lent = Lent { scratch: vec![0; 65536], map: vec![0; 1 << 24], words: vec![0; 1 << 16], numbers: [0; port::NUMBERS] };
+    for title in titles().iter().filter(|t| t.name.starts_with("bench")) {
+        let units: Vec<Vec<u8>> = title.positions.iter().map(|&p| original::extract_spu(&title.file[p..]).expect("a unit")).collect();
+        extract(&format!("{}, {} units from packets", title.name, units.len()), title, &mut lent);
+        decode(&format!("{}, {} units to record, map and words", title.name, units.len()), &units, &mut lent);
+    }
+    decode("blocks that overlap, 8,000 bytes", &[overlapping(8000)], &mut lent);
+    decode("blocks that overlap, 65,532 bytes", &[overlapping(65535)], &mut lent);
+    decode("16,380 bands", &[many_bands()], &mut lent);
+    decode("codes of one nibble", &[one_nibble()], &mut lent);
+    layers(&mut lent);
+}

@@ -1,0 +1,120 @@
+// What a class of requests is, and what comparing one request gives.
+use crate::random::Random;
+use crate::side::{Side, Spot};
+use crate::titles::{Title, titles};
+use std::panic::{AssertUnwindSafe, catch_unwind};
+
+// What both sides are asked: bytes, and up to four numbers whose meaning is the class's.
+#[derive(Clone, Default)]
+pub struct Request {
+    pub bytes: Vec<u8>,
+    pub n: [usize; 4],
+}
+
+// What real titles give: files cut from one cue to the next, and the units in them.
+pub struct World {
+    pub files: Vec<Vec<u8>>,
+    pub units: Vec<Vec<u8>>,
+}
+
+impl World {
+    pub fn new() -> World {
+        let mut world = World { files: Vec::new(), units: Vec::new() };
+        for Title { file, positions, .. } in titles() {
+            for (i, &from) in positions.iter().enumerate() {
+                let to = positions.get(i + 1).copied().unwrap_or(file.len()).min(file.len());
+                if from < to {
+                    if let Spot::Unit { unit, .. } = (crate::original::adapter::SIDE.spot)(&file[from..to], 0) {
+                        world.files.push(file[from..to].to_vec());
+                        world.units.push(unit);
+                    }
+                }
+            }
+        }
+        world
+    }
+}
+
+impl Default for World {
+    fn default() -> Self {
+        World::new()
+    }
+}
+
+// What a request showed.
+#[derive(Default)]
+pub struct Outcome {
+    // The port's refusal, 0 where it accepts.
+    pub refusal: u8,
+    // Whether the original accepts too.
+    pub both: bool,
+    // A rule of docs/DIFFERENCES.md under which the original was not followed; what the rule says was checked instead.
+    pub rule: Option<&'static str>,
+    // Where the two differ.
+    pub differs: Option<String>,
+    // Where the original panicked: its words.
+    pub panicked: Option<String>,
+    // A number for all that the port gave and wrote, for the fixed list.
+    pub sum: u64,
+}
+
+impl Outcome {
+    // Notes a difference unless the condition holds.
+    pub fn must(&mut self, holds: bool, what: impl FnOnce() -> String) {
+        if !holds && self.differs.is_none() {
+            self.differs = Some(what());
+        }
+    }
+}
+
+pub struct Class {
+    pub name: &'static str,
+    // A fixed part, the same in every run.
+    pub fixed: fn(&World, &mut dyn FnMut(Request)),
+    pub generate: fn(&World, &mut Random) -> Request,
+    pub compare: fn(&Side, &Request) -> Outcome,
+    // Refusals that generated requests must meet 50 times at least.
+    pub refusals: &'static [u8],
+    // Whether a quarter of the generated requests must be accepted by both sides.
+    pub accepted: bool,
+}
+
+// What the original does, or the words of its panic.
+pub fn tried<T>(f: impl FnOnce() -> T) -> Result<T, String> {
+    catch_unwind(AssertUnwindSafe(f)).map_err(|e| {
+        e.downcast_ref::<String>().cloned().or_else(|| e.downcast_ref::<&str>().map(|s| s.to_string())).unwrap_or_else(|| "a panic".into())
+    })
+}
+
+// Lent memory starts with this pattern, so that what is written shows.
+pub const BYTE: u8 = 0xA5;
+pub const WORD: u16 = 0xA5C3;
+pub const NUMBER: usize = 0xA5C3_5A3C_0FF0_9669;
+
+// A sum over numbers in turn (FNV-1a over 64-bit words, folded as the fixed list's program folds it).
+#[derive(Clone, Copy)]
+pub struct Sum(pub u64);
+
+impl Default for Sum {
+    fn default() -> Self {
+        Sum(1)
+    }
+}
+
+impl Sum {
+    pub fn add(&mut self, v: usize) {
+        self.0 = (self.0 * 31 + v as u64 % 1_000_003) % 4_294_967_291;
+    }
+
+    pub fn all<T: Copy + Into<u64>>(&mut self, vs: &[T]) {
+        for &v in vs {
+            self.add(Into::<u64>::into(v) as usize);
+        }
+    }
+}
+
+// Bytes in hexadecimal, cut where they are many.
+pub fn hex(bytes: &[u8]) -> String {
+    let shown: String = bytes.iter().take(400).map(|b| format!("{b:02X} ")).collect();
+    if bytes.len() > 400 { format!("{shown}.. ({} bytes)", bytes.len()) } else { shown.trim_end().to_string() }
+}

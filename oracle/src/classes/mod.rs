@@ -1,0 +1,13 @@
+// The classes. A further one is a module here with a `Class`, and a line in `all`.
+pub mod bands;
+pub mod control;
+pub mod field;
+pub mod packets;
+pub mod pes;
+pub mod unit;
+
+use crate::class::Class;
+
+pub fn all() -> Vec<Class> {
+    vec![pes::CLASS, packets::CLASS, bands::CLASS, control::CLASS, field::CLASS, unit::CLASS]
+}

@@ -1,0 +1,36 @@
+// The static library's functions (include/vobsub.h), on slices.
+pub const NUMBERS: usize = 16;
+pub const STARTED: usize = 6;
+pub const START: usize = 7;
+pub const STOPPED: usize = 8;
+pub const STOP: usize = 9;
+pub const BAND_WORDS: usize = 14;
+pub const CODES: usize = 15;
+
+unsafe extern "C" {
+    fn vobsub_parse_pes_body(pes: *const u8, pes_len: usize, body: *mut usize) -> u8;
+    fn vobsub_extract_spu(file: *const u8, file_len: usize, position: usize, scratch: *mut u8, scratch_len: usize, length: *mut usize, joined: *mut u8) -> u8;
+    fn vobsub_parse_chg_colcon_payload(payload: *const u8, payload_len: usize, words: *mut u16, words_len: usize, at: usize, count: *mut usize) -> u8;
+    fn vobsub_decode_rle_field(field: *const u8, field_len: usize, width: usize, height: usize, start_row: usize, pixels: *mut u8, pixels_len: usize, codes: *mut usize) -> u8;
+    fn vobsub_parse_and_decode_spu(unit: *const u8, unit_len: usize, pixels: *mut u8, pixels_len: usize, words: *mut u16, words_len: usize, numbers: *mut usize) -> u8;
+}
+
+pub fn pes_body(pes: &[u8], body: &mut usize) -> u8 {
+    unsafe { vobsub_parse_pes_body(pes.as_ptr(), pes.len(), body) }
+}
+
+pub fn extract_spu(file: &[u8], position: usize, scratch: &mut [u8], length: &mut usize, joined: &mut u8) -> u8 {
+    unsafe { vobsub_extract_spu(file.as_ptr(), file.len(), position, scratch.as_mut_ptr(), scratch.len(), length, joined) }
+}
+
+pub fn bands(payload: &[u8], words: &mut [u16], at: usize, count: &mut usize) -> u8 {
+    unsafe { vobsub_parse_chg_colcon_payload(payload.as_ptr(), payload.len(), words.as_mut_ptr(), words.len(), at, count) }
+}
+
+pub fn field(field: &[u8], width: usize, height: usize, start_row: usize, pixels: &mut [u8], codes: &mut usize) -> u8 {
+    unsafe { vobsub_decode_rle_field(field.as_ptr(), field.len(), width, height, start_row, pixels.as_mut_ptr(), pixels.len(), codes) }
+}
+
+pub fn unit(unit: &[u8], pixels: &mut [u8], words: &mut [u16], numbers: &mut [usize; NUMBERS]) -> u8 {
+    unsafe { vobsub_parse_and_decode_spu(unit.as_ptr(), unit.len(), pixels.as_mut_ptr(), pixels.len(), words.as_mut_ptr(), words.len(), numbers.as_mut_ptr()) }
+}

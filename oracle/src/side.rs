@@ -1,0 +1,48 @@
+// The original in the terms in which both sides are compared.
+
+// What the original has at a position of a file.
+pub enum Spot {
+    // The cue is left out.
+    Skipped,
+    // No unit; `handed_on` says that the rest of the file goes to the decoder instead.
+    None { handed_on: bool },
+    // A unit; `same` says that it is also what goes to the decoder.
+    Unit { unit: Vec<u8>, joined: bool, same: bool },
+}
+
+// A unit, with the numbers of its record in the order of include/vobsub.h. Whether there is a start or a stop, and the number of codes, are 0:
+// the original does not say.
+pub struct Decoded {
+    pub numbers: [usize; 16],
+    pub width: usize,
+    pub height: usize,
+    pub map: Vec<u8>,
+    pub words: Vec<u16>,
+}
+
+#[derive(Clone, Copy)]
+pub struct Side {
+    pub pes_body: fn(&[u8]) -> Option<usize>,
+    pub spot: fn(&[u8], usize) -> Spot,
+    pub bands: fn(&[u8]) -> Result<Vec<u16>, String>,
+    pub field: fn(&[u8], usize, usize, usize, &mut [u8]) -> Result<(), String>,
+    pub unit: fn(&[u8]) -> Result<Decoded, String>,
+    pub positions: fn(&str) -> Vec<usize>,
+}
+
+// The refusal that a message of the original stands for, by a part of the message. The first part that is found counts.
+pub fn number_of(message: &str) -> u8 {
+    const PARTS: &[(&str, u8)] = &[
+        ("too short", 15),
+        ("inconsistent", 16),
+        ("< 2", 18),
+        ("LN_CTLI", 19),
+        ("PX_CTLI", 19),
+        ("truncated", 17),
+        ("unknown", 20),
+        ("inverted", 21),
+        ("out of range", 25),
+        ("ran out", 26),
+    ];
+    PARTS.iter().find(|p| message.contains(p.0)).map_or(255, |p| p.1)
+}
