@@ -26,7 +26,11 @@ use Rattle.idx_numbers.specs.Numbers.{unsigned, signed, bare}
 use Rattle.idx_lines.specs.Lines.{steps}
 use Rattle.idx_lines.specs.Lines as lines
 use Rattle.idx_lines.specs.Answers.{timeAt}
-use Rattle.cards.specs.Table.{Card, code, field, fields, unit, found, position, start, table}
+use Rattle.grammar.specs.Picture.{evens}
+use Rattle.demo.specs.Codes.{runs, cut, marksOf, digits, nibblesOf, packed, pictureRows, fieldNibbles}
+use Rattle.demo.specs.Unit.{allColours, pictureOk, sizedUnit, demoAt}
+use Rattle.demo.specs.Unit as demo
+use Rattle.cards.specs.Table.{Card, code, field, fields, unit, found, written, upper, position, start, table}
 
 abbrev pub got : List (List ℕ)
 got = map (λ (c : Card). c .got) table
@@ -35,7 +39,7 @@ abbrev pub want : List (List ℕ)
 want = map (λ (c : Card). c .want) table
 
 pub tabled : got ≡ want
-unfolding table code field fields unit found position start numeral startOf all split unsigned signed bare lines.fields steps timeAt joined unitOf leading header1At headerAt bodyAt keptAt packAt privateAt kindAt packetAt packetsAt isBare formAt listFuel listFrom word nibble nibbles paints afterCodes align rowPixels codesIn indexMap untold tellBlock tellChain topEnd codeFrom codeAt rowAt fieldAt rowsFrom paintField decoded rowCounts fieldCounts weave lowerAt fieldsAt plainAt changeAt orderAt commandAt commandsAt blockAt blocksAt headFits chainAt controlAt spuOf entryWords bandWords rowsAt unitAt
+unfolding table code field fields unit found written upper evens runs cut marksOf digits nibblesOf packed pictureRows fieldNibbles allColours pictureOk sizedUnit demoAt demo.unitOf position start numeral startOf all split unsigned signed bare lines.fields steps timeAt joined unitOf leading header1At headerAt bodyAt keptAt packAt privateAt kindAt packetAt packetsAt isBare formAt listFuel listFrom word nibble nibbles paints afterCodes align rowPixels codesIn indexMap untold tellBlock tellChain topEnd codeFrom codeAt rowAt fieldAt rowsFrom paintField decoded rowCounts fieldCounts weave lowerAt fieldsAt plainAt changeAt orderAt commandAt commandsAt blockAt blocksAt headFits chainAt controlAt spuOf entryWords bandWords rowsAt unitAt
 tabled = refl
 
 pub each : (k : ℕ) → getD got k [] ≡ getD want k []

@@ -23,6 +23,8 @@ use Rattle.control.specs.Answers.{spuOf}
 use Rattle.control.specs.declared.Spu.{Spu}
 use Rattle.ps.specs.Packets.{formAt}
 use Rattle.spu.specs.Unit.{unitAt}
+use Rattle.demo.specs.Codes.{lastMarks, packed}
+use Rattle.demo.specs.Unit.{topNibbles, demoAt}
 
 pub record Card : Type 0 where
   pub got : List ℕ
@@ -61,6 +63,13 @@ unit u =
 -- the unit at the front of the file f
 unfoldable pub found : List ℕ → List ℕ
 found f = outcome unitOf (formAt subpicture f 0)
+
+-- the unit that is written for a picture, with 65,535 bytes of output, and its top field
+unfoldable pub written : ℕ → ℕ → List ℕ → List ℕ
+written w h px = outcome (λ u. u) (demoAt w h px 65535)
+
+unfoldable pub upper : ℕ → ℕ → List ℕ → List ℕ
+upper w h px = packed (topNibbles lastMarks w h px)
 
 -- a block that gives everything but a stop, and one that stops
 abbrev blocks : List Block
@@ -135,4 +144,10 @@ table =
     ∷ card (position (49 ∷ replicate 16 48)) (0 ∷ 10000000000000000 ∷ [])
     ∷ card (start (hours 56)) (0 ∷ 9223372036800000000 ∷ [])
     ∷ card (start (hours 57)) (8 ∷ [])
+    -- a written unit; a run of 64 before the row's end, and the fill at it; a side of 0, an index too few, an index of 4
+    ∷ card (written 2 2 (1 ∷ 1 ∷ 2 ∷ 3 ∷ [])) (0 ∷ 0x00 ∷ 0x21 ∷ 0x00 ∷ 0x09 ∷ 0x00 ∷ 0x01 ∷ 0x60 ∷ 0x00 ∷ 0x30 ∷ 0x00 ∷ 0x00 ∷ 0x00 ∷ 0x09 ∷ 0x03 ∷ 0x01 ∷ 0x32 ∷ 0x04 ∷ 0x0F ∷ 0xFF ∷ 0x05 ∷ 0x00 ∷ 0x00 ∷ 0x01 ∷ 0x00 ∷ 0x00 ∷ 0x01 ∷ 0x06 ∷ 0x00 ∷ 0x04 ∷ 0x00 ∷ 0x06 ∷ 0x01 ∷ 0xFF ∷ [])
+    ∷ card (upper 65 1 (replicate 64 1 ++ (2 ∷ []))) (0x01 ∷ 0x01 ∷ 0x00 ∷ 0x02 ∷ [])
+    ∷ card (written 0 1 []) (27 ∷ [])
+    ∷ card (written 2 1 (0 ∷ [])) (28 ∷ [])
+    ∷ card (written 1 1 (4 ∷ [])) (29 ∷ [])
     ∷ []
