@@ -4,3 +4,4 @@ pub mod Stores
 pub mod Picks
 pub mod Durations
 pub mod Whole
+pub mod Claim

@@ -98,13 +98,13 @@ see-next cue s (palette l ts ∷ ls) = see-next cue _ ls
 see-next cue s (timestamp l ps fs v ∷ ls) = see-next cue _ ls
 
 -- ---- cues by number
-cue-in : (cs : List Cue) (n : ℕ) → n < length cs → (c : Cue) × (cueAt cs n ≡ some c)
+pub cue-in : (cs : List Cue) (n : ℕ) → n < length cs → (c : Cue) × (cueAt cs n ≡ some c)
 unfolding cueAt
 cue-in [] n h = absurd (omega arith)
 cue-in (c ∷ cs) zero h = (c, refl)
 cue-in (c ∷ cs) (suc n) h = cue-in cs n (omega arith)
 
-cue-out : (cs : List Cue) (n : ℕ) → length cs ≤ n → cueAt cs n ≡ none
+pub cue-out : (cs : List Cue) (n : ℕ) → length cs ≤ n → cueAt cs n ≡ none
 unfolding cueAt
 cue-out [] n h = refl
 cue-out (c ∷ cs) zero h = absurd (omega arith)
