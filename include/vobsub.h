@@ -64,6 +64,15 @@ uint8_t vobsub_parse_and_decode_spu(const uint8_t *unit, size_t unit_len,
                                     uint16_t *words, size_t words_len,
                                     size_t numbers[VOBSUB_NUMBERS]);
 
+/* Writes a picture of that width and height as a unit into the front of out, which has out_len bytes. indices has indices_len bytes, the
+   colour numbers 0 to 3 of its pixels, row after row; width and height may be any numbers. *length is set to the unit's length. length is not
+   null, and the three regions do not overlap. On a refusal (27 to 31) out and *length are as they were, and after a unit out past its
+   length is. */
+uint8_t vobsub_build_demo_spu(size_t width, size_t height,
+                              const uint8_t *indices, size_t indices_len,
+                              uint8_t *out, size_t out_len,
+                              size_t *length);
+
 #ifdef __cplusplus
 }
 #endif

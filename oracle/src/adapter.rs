@@ -74,5 +74,5 @@ pub mod adapter {
         parse_idx(text).map(|idx| idx.cues.iter().map(|c| c.1 as usize).collect()).unwrap_or_default()
     }
 
-    pub const SIDE: Side = Side { pes_body, spot, bands, field, unit, positions };
+    pub const SIDE: Side = Side { pes_body, spot, bands, field, unit, positions, write: build_demo_spu };
 }

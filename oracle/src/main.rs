@@ -52,7 +52,7 @@ impl Tally {
         let what = differs(&o);
         if let Some(words) = o.panicked {
             // the words without their numbers, so that one place in the code is one entry
-            let key: String = words.chars().filter(|c| !c.is_ascii_digit()).collect();
+            let key: String = words.replace('\n', " ").chars().filter(|c| !c.is_ascii_digit()).collect();
             let entry = self.panics.entry(key).or_insert((0, q.clone()));
             entry.0 += 1;
             if (q.bytes.len(), q.n) < (entry.1.bytes.len(), entry.1.n) {

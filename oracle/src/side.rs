@@ -28,6 +28,7 @@ pub struct Side {
     pub field: fn(&[u8], usize, usize, usize, &mut [u8]) -> Result<(), String>,
     pub unit: fn(&[u8]) -> Result<Decoded, String>,
     pub positions: fn(&str) -> Vec<usize>,
+    pub write: fn(u16, u16, &[u8]) -> Vec<u8>,
 }
 
 // The refusal that a message of the original stands for, by a part of the message. The first part that is found counts.

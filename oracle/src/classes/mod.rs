@@ -5,9 +5,10 @@ pub mod field;
 pub mod packets;
 pub mod pes;
 pub mod unit;
+pub mod written;
 
 use crate::class::Class;
 
 pub fn all() -> Vec<Class> {
-    vec![pes::CLASS, packets::CLASS, bands::CLASS, control::CLASS, field::CLASS, unit::CLASS]
+    vec![pes::CLASS, packets::CLASS, bands::CLASS, control::CLASS, field::CLASS, unit::CLASS, written::CLASS]
 }
