@@ -7,6 +7,18 @@ pub const STOP: usize = 9;
 pub const BAND_WORDS: usize = 14;
 pub const CODES: usize = 15;
 
+// What the port says of an index text; `untouched` where the cue buffers hold their pattern but for the cues.
+pub struct IndexAnswer {
+    pub refusal: u8,
+    pub index: crate::side::Index,
+    pub untouched: bool,
+}
+
+// Not exported yet.
+pub fn index(_text: &[u8], _room: usize) -> Option<IndexAnswer> {
+    None
+}
+
 unsafe extern "C" {
     fn vobsub_parse_pes_body(pes: *const u8, pes_len: usize, body: *mut usize) -> u8;
     fn vobsub_extract_spu(file: *const u8, file_len: usize, position: usize, scratch: *mut u8, scratch_len: usize, length: *mut usize, joined: *mut u8) -> u8;
