@@ -33,7 +33,7 @@ uint8_t vobsub_parse_pes_body(const uint8_t *pes, size_t pes_len,
 /* Decodes the run codes of a field, which has field_len bytes, into rows start_row, start_row + 2, .. of a map of that width and height, one
    byte a pixel from pixels[0] on. pixels has pixels_len bytes; width, height and start_row may be any numbers. *codes is set to the number of
    codes read. codes is not null, and the three regions do not overlap. Only the rows named are written; on a refusal (22, 26) pixels and
-   *codes are as they were. It takes up to 128 KiB of stack. */
+   *codes are as they were. It takes up to 129 KiB of stack. */
 uint8_t vobsub_decode_rle_field(const uint8_t *field, size_t field_len,
                                 size_t width, size_t height, size_t start_row,
                                 uint8_t *pixels, size_t pixels_len,
@@ -57,12 +57,21 @@ enum vobsub_number {
 /* Decodes a unit, the unit_len bytes from its length word on. Its picture goes to the front of pixels, which has pixels_len bytes, one byte a
    pixel, row after row; its bands go to the front of words, which has words_len words; numbers has VOBSUB_NUMBERS numbers, and gets those of
    the record. numbers is not null, and the four regions do not overlap. Of pixels the first (x2 - x1 + 1) * (y2 - y1 + 1) bytes are written,
-   of words as many as numbers[VOBSUB_BAND_WORDS] says; on a refusal (15 to 23, 25, 26) all three are as they were. It takes up to 256 KiB of
-   stack, and a little more. */
+   of words as many as numbers[VOBSUB_BAND_WORDS] says; on a refusal (15 to 23, 25, 26) all three are as they were. It takes up to 257 KiB of
+   stack. */
 uint8_t vobsub_parse_and_decode_spu(const uint8_t *unit, size_t unit_len,
                                     uint8_t *pixels, size_t pixels_len,
                                     uint16_t *words, size_t words_len,
                                     size_t numbers[VOBSUB_NUMBERS]);
+
+/* Writes a picture of that width and height as a unit into the front of out, which has out_len bytes. indices has indices_len bytes, the
+   colour numbers 0 to 3 of its pixels, row after row; width and height may be any numbers. *length is set to the unit's length. length is not
+   null, and the three regions do not overlap. On a refusal (27 to 31) out and *length are as they were, and after a unit out past its
+   length is. */
+uint8_t vobsub_build_demo_spu(size_t width, size_t height,
+                              const uint8_t *indices, size_t indices_len,
+                              uint8_t *out, size_t out_len,
+                              size_t *length);
 
 #ifdef __cplusplus
 }

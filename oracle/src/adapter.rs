@@ -70,9 +70,14 @@ pub mod adapter {
         Ok(Decoded { numbers, width: width as usize, height: height as usize, map, words })
     }
 
+    fn index(text: &str) -> std::result::Result<crate::side::Index, String> {
+        let idx = parse_idx(text).map_err(|e| e.to_string())?;
+        Ok(crate::side::Index { size: idx.size, palette: idx.palette_rgb.concat(), has_palette: idx.has_palette, cues: idx.cues })
+    }
+
     fn positions(text: &str) -> Vec<usize> {
         parse_idx(text).map(|idx| idx.cues.iter().map(|c| c.1 as usize).collect()).unwrap_or_default()
     }
 
-    pub const SIDE: Side = Side { pes_body, spot, bands, field, unit, positions };
+    pub const SIDE: Side = Side { pes_body, spot, bands, field, unit, positions, index, write: build_demo_spu };
 }

@@ -54,8 +54,6 @@ pub struct Outcome {
     pub differs: Option<String>,
     // Where the original panicked: its words.
     pub panicked: Option<String>,
-    // A number for all that the port gave and wrote, for the fixed list.
-    pub sum: u64,
 }
 
 impl Outcome {
@@ -91,7 +89,7 @@ pub const BYTE: u8 = 0xA5;
 pub const WORD: u16 = 0xA5C3;
 pub const NUMBER: usize = 0xA5C3_5A3C_0FF0_9669;
 
-// A sum over numbers in turn (FNV-1a over 64-bit words, folded as the fixed list's program folds it).
+// A sum over numbers in turn, for the fixed list, as crates/replay makes it.
 #[derive(Clone, Copy)]
 pub struct Sum(pub u64);
 

@@ -7,12 +7,25 @@ pub const STOP: usize = 9;
 pub const BAND_WORDS: usize = 14;
 pub const CODES: usize = 15;
 
+// What the port says of an index text; `untouched` where the cue buffers hold their pattern but for the cues.
+pub struct IndexAnswer {
+    pub refusal: u8,
+    pub index: crate::side::Index,
+    pub untouched: bool,
+}
+
+// Not exported yet.
+pub fn index(_text: &[u8], _room: usize) -> Option<IndexAnswer> {
+    None
+}
+
 unsafe extern "C" {
     fn vobsub_parse_pes_body(pes: *const u8, pes_len: usize, body: *mut usize) -> u8;
     fn vobsub_extract_spu(file: *const u8, file_len: usize, position: usize, scratch: *mut u8, scratch_len: usize, length: *mut usize, joined: *mut u8) -> u8;
     fn vobsub_parse_chg_colcon_payload(payload: *const u8, payload_len: usize, words: *mut u16, words_len: usize, at: usize, count: *mut usize) -> u8;
     fn vobsub_decode_rle_field(field: *const u8, field_len: usize, width: usize, height: usize, start_row: usize, pixels: *mut u8, pixels_len: usize, codes: *mut usize) -> u8;
     fn vobsub_parse_and_decode_spu(unit: *const u8, unit_len: usize, pixels: *mut u8, pixels_len: usize, words: *mut u16, words_len: usize, numbers: *mut usize) -> u8;
+    fn vobsub_build_demo_spu(width: usize, height: usize, indices: *const u8, indices_len: usize, out: *mut u8, out_len: usize, length: *mut usize) -> u8;
 }
 
 pub fn pes_body(pes: &[u8], body: &mut usize) -> u8 {
@@ -33,4 +46,8 @@ pub fn field(field: &[u8], width: usize, height: usize, start_row: usize, pixels
 
 pub fn unit(unit: &[u8], pixels: &mut [u8], words: &mut [u16], numbers: &mut [usize; NUMBERS]) -> u8 {
     unsafe { vobsub_parse_and_decode_spu(unit.as_ptr(), unit.len(), pixels.as_mut_ptr(), pixels.len(), words.as_mut_ptr(), words.len(), numbers.as_mut_ptr()) }
+}
+
+pub fn write(width: usize, height: usize, indices: &[u8], out: &mut [u8], length: &mut usize) -> u8 {
+    unsafe { vobsub_build_demo_spu(width, height, indices.as_ptr(), indices.len(), out.as_mut_ptr(), out.len(), length) }
 }

@@ -20,6 +20,15 @@ pub struct Decoded {
     pub words: Vec<u16>,
 }
 
+// What an index text says: the size, the palette as red, green and blue of 16 entries, whether there is one, and start and position of each cue.
+#[derive(Debug, Default, PartialEq)]
+pub struct Index {
+    pub size: (u16, u16),
+    pub palette: Vec<u8>,
+    pub has_palette: bool,
+    pub cues: Vec<(i64, u64)>,
+}
+
 #[derive(Clone, Copy)]
 pub struct Side {
     pub pes_body: fn(&[u8]) -> Option<usize>,
@@ -28,6 +37,8 @@ pub struct Side {
     pub field: fn(&[u8], usize, usize, usize, &mut [u8]) -> Result<(), String>,
     pub unit: fn(&[u8]) -> Result<Decoded, String>,
     pub positions: fn(&str) -> Vec<usize>,
+    pub index: fn(&str) -> Result<Index, String>,
+    pub write: fn(u16, u16, &[u8]) -> Vec<u8>,
 }
 
 // The refusal that a message of the original stands for, by a part of the message. The first part that is found counts.

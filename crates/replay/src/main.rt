@@ -98,6 +98,12 @@ fn unit(bytes: &[u8], map: &mut [u8], words: &mut [u16], e: Expected) -> bool {
     as_expected(e, r, mixed_words(mixed_bytes(s, map), words))
 }
 
+fn written(bytes: &[u8], width: usize, height: usize, out: &mut [u8], e: Expected) -> bool {
+    let mut length: usize = NUMBER;
+    let r = vobsub_c::vobsub_build_demo_spu(width, height, bytes, out, &mut length);
+    as_expected(e, r, mixed_bytes(mixed(1, length as u64), out))
+}
+
 fn packets_front(
     bytes: &[u8],
     position: usize,
@@ -129,6 +135,20 @@ fn field_front(
 ) -> bool {
     if room <= map.len() {
         return field(bytes, width, height, start, &mut map[..room], e);
+    }
+    false
+}
+
+fn written_front(
+    bytes: &[u8],
+    width: usize,
+    height: usize,
+    out: &mut [u8],
+    room: usize,
+    e: Expected,
+) -> bool {
+    if room <= out.len() {
+        return written(bytes, width, height, &mut out[..room], e);
     }
     false
 }
@@ -180,6 +200,9 @@ fn row(class: u8, bytes: &[u8], a: usize, b: usize, c: usize, d: usize, e: Expec
     }
     if class == 5 {
         return unit_front(bytes, &mut map, a, &mut words, b, e);
+    }
+    if class == 6 {
+        return written_front(bytes, a, b, &mut map, c, e);
     }
     false
 }
@@ -272,4 +295,5 @@ fn main() {
     class(b"control");
     class(b"fields");
     class(b"units");
+    class(b"written");
 }

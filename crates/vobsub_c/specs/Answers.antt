@@ -20,6 +20,10 @@ use Rattle.rle.specs.Answers.{fieldAnswer}
 use Rattle.rle.specs.declared.FieldAnswer.{FieldAnswer}
 use Rattle.rle.specs.declared.FieldAnswer.the-variants as field-answer
 use Rattle.control.specs.declared.Spu.{Spu}
+use Rattle.demo.specs.Unit.{demoAt}
+use Rattle.demo.specs.Answers.{demoGiven}
+use Rattle.demo.specs.declared.DemoAnswer.{DemoAnswer}
+use Rattle.demo.specs.declared.DemoAnswer.the-variants as demo-answer
 use Rattle.spu.specs.Unit.{unitIn}
 use Rattle.spu.specs.Answers.{spuAnswer, unitMap, unitBands}
 use Rattle.spu.specs.declared.SpuAnswer.{SpuAnswer}
@@ -109,3 +113,17 @@ pub record UnitDecoded (unit pixels words before : List ℕ) (r : ℕ) (pixels�
   pub told : after ≡ spuRecord (spuAnswer (unitIn unit (length pixels) (length words))) before
   pub paints : pixels′ ≡ sets pixels 0 (unitMap (unitIn unit (length pixels) (length words)))
   pub stores : words′ ≡ sets words 0 (unitBands (unitIn unit (length pixels) (length words)))
+
+abbrev pub demoRefusal : DemoAnswer → ℕ
+demoRefusal (demo-answer.Wrote n) = 0
+demoRefusal (demo-answer.Refused k) = k
+
+-- the written unit's length, or the number that was there
+abbrev pub demoLength : DemoAnswer → ℕ → ℕ
+demoLength (demo-answer.Wrote n) before = n
+demoLength (demo-answer.Refused k) before = before
+
+pub record UnitWritten (w h : ℕ) (indices out : List ℕ) (before r : ℕ) (out′ : List ℕ) (after : ℕ) : Type 0 where
+  pub refusal : r ≡ demoRefusal (demoGiven (demoAt w h indices (length out)))
+  pub long : after ≡ demoLength (demoGiven (demoAt w h indices (length out))) before
+  pub stores : out′ ≡ sets out 0 (listed (demoAt w h indices (length out)))

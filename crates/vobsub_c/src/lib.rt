@@ -2,13 +2,14 @@
 // goes where the caller says, which is as found on a refusal.
 use chg_colcon::BandAnswer;
 use control::Spu;
+use demo::DemoAnswer;
 use outcome::NO_UNIT;
 use ps::UnitAnswer;
 use rle::FieldAnswer;
 use spu::SpuAnswer;
 ghost use mathlib.Core.Bool.{cond};
 ghost use mathlib.Core.Path.{_≡_};
-ghost use Rattle.vobsub_c.specs.Answers.{BandsGiven, UnitExtracted, FieldDecoded, BodyFound, spuNumbers, UnitDecoded};
+ghost use Rattle.vobsub_c.specs.Answers.{BandsGiven, UnitExtracted, FieldDecoded, BodyFound, spuNumbers, UnitDecoded, UnitWritten};
 
 // The bands in a payload, stored from place `at` of the lent words on, and how many words they take.
 // Ruled out: a count set on a refusal.
@@ -187,5 +188,26 @@ pub extern "C" fn vobsub_parse_and_decode_spu(
             0
         }
         SpuAnswer::Refused(number) => number,
+    }
+}
+
+// A picture as a unit in the front of `out`, and the unit's length.
+// Ruled out: a length set on a refusal.
+#[no_mangle]
+pub extern "C" fn vobsub_build_demo_spu(
+    width: usize,
+    height: usize,
+    indices: &[u8],
+    out: &mut [u8],
+    length: &mut usize,
+) -> u8
+    ensures { λ r. ⌜ UnitWritten width height (now (indices .entry)) (now (out .entry)) (now (length .entry)) r (now (out .exit)) (now (length .exit)) ⌝ }
+{
+    match demo::build_demo_spu(width, height, indices, out) {
+        DemoAnswer::Wrote(n) => {
+            *length = n;
+            0
+        }
+        DemoAnswer::Refused(number) => number,
     }
 }

@@ -1,7 +1,7 @@
 // Makes the fixed list of answers that crates/replay replays: `list FILE`. Run again it gives the same bytes.
 //
 // The list: 128 bytes of text that say how it was made; then for each class in the order of `classes::all` a word with the number of its rows,
-// and its rows. A row is 16 bytes and the request's bytes: which function is asked (1 pes, 2 packets, 3 bands, 4 fields, 5 units), the refusal,
+// and its rows. A row is 16 bytes and the request's bytes: which function is asked (1 pes, 2 packets, 3 bands, 4 fields, 5 units, 6 written), the refusal,
 // a word with the number of bytes, four words with the request's numbers, and four bytes with the sum over the answer.
 //
 // Only requests on which both sides agree (or that a rule covers) go into the list, so many for each answer.
@@ -18,6 +18,9 @@ const LONGEST: usize = 240;
 
 // The numbers of a request as the list has them: for units, how many bytes and words are lent.
 fn numbers(class: &Class, side: &Side, q: &Request) -> [usize; 4] {
+    if kind(class) == 6 {
+        return [q.n[0], q.n[1], q.n[2].min(200), 0];
+    }
     if kind(class) != 5 {
         return q.n;
     }
@@ -42,6 +45,7 @@ fn kind(class: &Class) -> u8 {
         "packets" => 2,
         "bands" => 3,
         "fields" => 4,
+        "written" => 6,
         _ => 5,
     }
 }
@@ -76,6 +80,13 @@ fn answer(kind: u8, bytes: &[u8], n: [usize; 4]) -> (u8, u64) {
             let refusal = port::field(bytes, n[0], n[1], n[2], &mut map, &mut codes);
             sum.add(codes);
             sum.all(&map);
+            refusal
+        }
+        6 => {
+            let (mut out, mut length) = (vec![BYTE; n[2]], NUMBER);
+            let refusal = port::write(n[0], n[1], bytes, &mut out, &mut length);
+            sum.add(length);
+            sum.all(&out);
             refusal
         }
         _ => {

@@ -99,10 +99,6 @@ fn compare(side: &Side, q: &Request) -> Outcome {
     let mut count = NUMBER;
     let refusal = port::bands(&q.bytes, &mut words, at, &mut count);
     let mut o = Outcome { refusal, ..Default::default() };
-    let mut sum = Sum::default();
-    sum.add(count);
-    sum.all(&words);
-    o.sum = sum.0;
     let mut expected = vec![WORD; room];
     match tried(|| (side.bands)(&q.bytes)) {
         Err(words) => o.panicked = Some(words),

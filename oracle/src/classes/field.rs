@@ -92,10 +92,6 @@ fn compare(side: &Side, q: &Request) -> Outcome {
     let mut codes = NUMBER;
     let refusal = port::field(&q.bytes, width, height, start, &mut map, &mut codes);
     let mut o = Outcome { refusal, ..Default::default() };
-    let mut sum = Sum::default();
-    sum.add(codes);
-    sum.all(&map);
-    o.sum = sum.0;
     let short = width.checked_mul(height).is_none_or(|pixels| pixels > room);
     let mut theirs = vec![BYTE; room];
     let answer = if width == 0 { None } else { Some(tried(|| (side.field)(&q.bytes, width, height, start, &mut theirs))) };

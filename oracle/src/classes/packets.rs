@@ -149,11 +149,6 @@ fn compare(side: &Side, q: &Request) -> Outcome {
     let mut joined = BYTE;
     let refusal = port::extract_spu(&q.bytes, position, &mut scratch, &mut length, &mut joined);
     let mut o = Outcome { refusal, ..Default::default() };
-    let mut sum = Sum::default();
-    sum.add(length);
-    sum.add(joined as usize);
-    sum.all(&scratch);
-    o.sum = sum.0;
     let mut stored = 0;
     match tried(|| (side.spot)(&q.bytes, position)) {
         Err(words) => o.panicked = Some(words),

@@ -78,9 +78,6 @@ fn compare(side: &Side, q: &Request) -> Outcome {
     let mut body = NUMBER;
     let refusal = port::pes_body(&q.bytes, &mut body);
     let mut o = Outcome { refusal, ..Default::default() };
-    let mut sum = Sum::default();
-    sum.add(body);
-    o.sum = sum.0;
     match tried(|| (side.pes_body)(&q.bytes)) {
         Err(words) => o.panicked = Some(words),
         Ok(Some(place)) => {

@@ -315,9 +315,6 @@ fn compared(lent: &mut Lent, side: &Side, q: &Request) -> Outcome {
             }
         }
     }
-    let mut sum = Sum(o.sum.max(1));
-    sum.add(o.refusal as usize);
-    o.sum = sum.0;
     o
 }
 
@@ -337,13 +334,6 @@ fn accepted(o: &mut Outcome, lent: &mut Lent, a: &Answer, d: &Decoded, q: &Reque
     o.must((d.width, d.height) == (numbers[2] + 1 - numbers[0], numbers[3] + 1 - numbers[1]), || "width and height".into());
     o.must(lent.map[..d.map.len()] == d.map, || "the map".into());
     o.must(lent.words[..d.words.len()] == d.words, || "the words".into());
-    let mut sum = Sum::default();
-    for n in a.numbers {
-        sum.add(n);
-    }
-    sum.all(&lent.map[..d.map.len()]);
-    sum.all(&lent.words[..d.words.len()]);
-    o.sum = sum.0;
     o.must(lent.untouched(d.map.len()..map, d.words.len()..words), || "map or words are written past what is needed".into());
     if o.refusal == 0 {
         let (pixels, bands) = (d.map.len().min(lent.map.len()), d.words.len().min(lent.words.len()));
