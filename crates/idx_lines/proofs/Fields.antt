@@ -15,16 +15,16 @@ use lib.IntN.{ℤ, pos, negsuc, negℤ, _-ℤ_}
 use mir.Syntax.{w64}
 use mir.Val.{SFits, toZ, ofZ}
 use mir.Facts.{toZ-ofZ, toZ-pos}
-use borrow.Author.Tests.{eqb-true, ne-eqb, le-leb, lt-leb}
-use Rattle.grammar.specs.IndexNumbers.{isDigit, numeral}
+use borrow.Author.Tests.{eqb-true, ne-eqb, le-leb, lt-leb, le-ltb}
+use Rattle.grammar.specs.IndexNumbers.{isDigit, numeral, digit}
 use Rattle.grammar.specs.IndexParts.{unlike, colon}
 use Rattle.idx_numbers.specs.Answers.{runOf}
 use Rattle.idx_numbers.specs.Numbers.{digits, unsigned, sign, signed}
-use Rattle.idx_numbers.specs.Parts.{front, part, split}
+use Rattle.idx_numbers.specs.Parts.{front, part, split, all}
 use Rattle.idx_lines.specs.Answers.{fieldsFrom, headField, later, FieldAt, countedIn, EndOf, CountedAt}
 use Rattle.outcome.proofs.Laws.{le-or-lt}
 use Rattle.idx_numbers.proofs.Leaves.{never, digits-is}
-use Rattle.idx_numbers.proofs.Numbers.{RunSays, run-says, run-past-top, digits-over, digits-none, digits-short, digits-whole}
+use Rattle.idx_numbers.proofs.Numbers.{RunSays, run-says, run-past-top, digits-over, digits-none, digits-short, digits-whole, ten-low}
 use Rattle.idx_numbers.proofs.Steps.{last-part, next-part, part-is, other-false}
 use Rattle.idx_numbers.proofs.Turns.{front-le}
 use Rattle.idx_numbers.specs.declared.Run.{Run}
@@ -285,3 +285,13 @@ module _ (s : List ℕ) (i : ℕ) (inside : i < length s) where
         let l : v ≤ 2 ^ 63 - 1 = rw t at (counted-most s i top r told v d f) in
         let y : toZ w64 v ≡ pos v = toZ-pos w64 (omega arith) in
         field-good s i (omega arith) (toZ w64 v) d (rw (plain, ← w, y)) (counted-end s i top r told v d f)
+
+  -- a byte below the digits that is no sign starts no number
+  pub below-bad : getD s i 0 < 48 → (getD s i 0 ≡ 45 → ⊥) → (getD s i 0 ≡ 43 → ⊥) → FieldAt s i NoField
+  unfolding signed unsigned all
+  below-bad h no-minus no-plus =
+      field-bad s i (omega arith)
+      (rw (cut (λ e. omega arith), ne-eqb (getD s i 0) 45 no-minus, ne-eqb (getD s i 0) 43 no-plus) none-there)
+    where
+      none-there : none ≡ sign pos (digits 10 (2 ^ 63 - 1) (getD s i 0 ∷ front (unlike colon) (drop (i + 1) s)))
+      none-there = let q : isDigit 10 (getD s i 0) ≡ false = le-ltb (digit (getD s i 0)) 10 (ten-low (getD s i 0) h) in rw q

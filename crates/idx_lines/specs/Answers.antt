@@ -1,11 +1,11 @@
 -- What each case of the code's types stands for, and what reading a line leaves in the palette. Assumes nothing: these are definitions.
-use Prim.Native.Nat.{ℕ, zero, suc, _+_, _-_, _/_, _%_, _≤_}
+use Prim.Native.Nat.{ℕ, zero, suc, _+_, _-_, _/_, _%_, _≤_, _<_}
 use mathlib.Core.Path.{_≡_}
 use mathlib.Core.Bool.{Bool, true, false, cond}
 use mathlib.Core.Option.{Option, some, none}
 use mathlib.Core.List.{List, [], _∷_, _++_}
 use lib.Dec.{leb}
-use lib.ListN.{length, take, drop}
+use lib.ListN.{length, getD, take, drop}
 use lib.Seq.{sets}
 use lib.IntN.{ℤ, pos}
 use Rattle.outcome.specs.Outcome.{Res, ok, refuse, check, need, andThen, mapRes, bad-time, long-time, bad-position}
@@ -135,6 +135,11 @@ pub record CountedAt (s : List ℕ) (i top : ℕ) (r : Counted) : Type 0 where
 abbrev pub NextOf : List ℕ → ℕ → Field → Type 0
 NextOf s i field.Bad = Unit {0}
 NextOf s i (field.Is z n) = NextField s i n
+
+-- the byte of s at place i is below the digits
+pub record FrontBelow (s : List ℕ) (i : ℕ) : Type 0 where
+  pub inside : i < length s
+  pub below : getD s i 0 < 48
 
 -- the field of s at place i, and the place after it
 pub record FieldAt (s : List ℕ) (i : ℕ) (r : Field) : Type 0 where

@@ -35,7 +35,7 @@ ghost use Rattle.idx_numbers.specs.Parts as NumberParts;
 ghost use Rattle.idx_numbers.specs.Parts.{part, split};
 ghost use Rattle.idx_lines.specs.Lines.{halves, sizeOr, timestampAt};
 ghost use Rattle.idx_lines.specs.Answers;
-ghost use Rattle.idx_lines.specs.Answers.{lineSays, lean, FoundIn, CountedAt, FieldAt, timeSays, timeAt, positionWith, rgb, TokensRead, LineRead};
+ghost use Rattle.idx_lines.specs.Answers.{lineSays, lean, FoundIn, CountedAt, FrontBelow, FieldAt, timeSays, timeAt, positionWith, rgb, TokensRead, LineRead};
 
 // What a trimmed line says.
 pub enum Line {
@@ -235,16 +235,11 @@ fn negated(v: u64) -> i64
     -1 - (v - 1) as i64
 }
 
-// The field that starts at place i; past the end it is missing, and 0.
-fn field_at(s: &[u8], i: usize) -> Field
+// The field that starts at place i with a byte below the digits: a sign, or nothing good.
+fn signed_at(s: &[u8], i: usize) -> Field
+    requires { ⌜ FrontBelow (now s) i ⌝ }
     ensures { λ r. ⌜ FieldAt (now (s .entry)) i r ⌝ }
 {
-    if i > s.len() {
-        return Field::Is { value: 0, next: i };
-    }
-    if i == s.len() {
-        return Field::Bad;
-    }
     if s[i] == 45 {
         let Counted::Is { value, end } = count_at(s, i + 1, 8) else {
             return Field::Bad;
@@ -262,6 +257,22 @@ fn field_at(s: &[u8], i: usize) -> Field
             value: value as i64,
             next: end + 1,
         };
+    }
+    Field::Bad
+}
+
+// The field that starts at place i; past the end it is missing, and 0. Signs stand before the digits among the bytes.
+fn field_at(s: &[u8], i: usize) -> Field
+    ensures { λ r. ⌜ FieldAt (now (s .entry)) i r ⌝ }
+{
+    if i > s.len() {
+        return Field::Is { value: 0, next: i };
+    }
+    if i == s.len() {
+        return Field::Bad;
+    }
+    if s[i] < 48 {
+        return signed_at(s, i);
     }
     let Counted::Is { value, end } = count_at(s, i, 7) else {
         return Field::Bad;

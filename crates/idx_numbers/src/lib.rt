@@ -3,12 +3,11 @@
 ghost use mathlib.Core.Path.{_≡_};
 ghost use mathlib.Core.Bool.{not};
 ghost use mathlib.Core.List.{List};
-ghost use Prim.Native.Nat.{ℕ, _≤_, _<_, _+_, _*_, _^_};
+ghost use Prim.Native.Nat.{ℕ, _≤_, _<_, _+_, _*_};
 ghost use lib.ListN.{length, take, drop};
 ghost use lib.IntN.{pos, _+ℤ_, _*ℤ_};
 ghost use Rattle.grammar.specs.IndexParts;
 ghost use Rattle.grammar.specs.IndexNumbers;
-ghost use Rattle.grammar.specs.IndexNumbers.{top-position};
 ghost use Rattle.idx_numbers.specs.Parts;
 ghost use Rattle.idx_numbers.specs.Parts.{front, shorn, trimmed, all};
 ghost use Rattle.idx_numbers.specs.Numbers.{digits, unsigned, bare, hex, positionOf};
