@@ -71,9 +71,6 @@ inked-as ns ms o w out e h = subst (λ (l : List ℕ). Inked l o w out) e h
 
 -- ---- Codes of a run
 
-pub snoc-assoc : (ns a : List ℕ) (v : ℕ) → ns ++ a ++ (v ∷ []) ≡ ns ++ (a ++ (v ∷ []))
-snoc-assoc ns a v = append-assoc ns a (v ∷ [])
-
 pub cut-short : (n c : ℕ) → n ≤ 255 → nibblesOf (runMarks n c) ≡ digits (runSize n) (4 * n + c)
 unfolding cut nibblesOf
 cut-short n c h = let z : (n - 1) / 255 ≡ 0 = omega arith in rw z (append-nil (digits (runSize n) (4 * n + c)))

@@ -244,6 +244,22 @@ pub record Back (last : ℕ → ℕ → List Mark) (w h : ℕ) (px : List ℕ) :
   pub picture : indexMap w (list .rows) ≡ px
   pub codes : codesIn (list .rows) ≡ marksIn last (pictureRows w h px)
 
+-- both fields have whole bytes
+module _ (last : ℕ → ℕ → List Mark) (closes : Closes last) (w h : ℕ) (px : List ℕ) where
+  pub top-even : length (topNibbles last w h px) % 2 ≡ 0
+  top-even = even-length last closes (evens (pictureRows w h px))
+
+  bottom-even : length (bottomNibbles last w h px) % 2 ≡ 0
+  bottom-even = even-length last closes (odds (pictureRows w h px))
+
+  pub fields-length : 2 * length (packed (topNibbles last w h px ++ bottomNibbles last w h px)) ≡ length (topNibbles last w h px) + length (bottomNibbles last w h px)
+  fields-length =
+      let a = length-packed (topNibbles last w h px ++ bottomNibbles last w h px) in
+      let b = length-append (topNibbles last w h px) (bottomNibbles last w h px) in
+      let c = top-even in
+      let d = bottom-even in
+      omega arith
+
 module _ (last : ℕ → ℕ → List Mark) (closes : Closes last) (w h : ℕ) (px : List ℕ)
     (wide : 1 ≤ w) (w-most : w ≤ 4096) (high : 1 ≤ h) (h-most : h ≤ 4096) (e : length px ≡ w * h) (k : Four px) (m : length (unitOf last w h px) ≤ 65535) where
   abbrev rows : List (List ℕ)
@@ -264,15 +280,6 @@ module _ (last : ℕ → ℕ → List Mark) (closes : Closes last) (w h : ℕ) (
   abbrev unit : List ℕ
   unit = whole w h second fields wide w-most high h-most
 
-  top-even : length top % 2 ≡ 0
-  top-even = even-length last closes (evens rows)
-
-  bottom-even : length bottom % 2 ≡ 0
-  bottom-even = even-length last closes (odds rows)
-
-  fields-length : 2 * length fields ≡ length top + length bottom
-  fields-length = let a = length-packed (top ++ bottom) in let b = length-append top bottom in let c = top-even in let d = bottom-even in omega arith
-
   spelled : Spells unit 8 (top ++ bottom)
   spelled =
       packed-spells (wordBytes (4 + length fields + 24) ++ wordBytes (4 + length fields)) (top ++ bottom) (controlBytes (4 + length fields) w h second)
@@ -280,13 +287,13 @@ module _ (last : ℕ → ℕ → List Mark) (closes : Closes last) (w h : ℕ) (
 
   upper : (z : ℕ) → second ≤ z → FieldReads last closes unit z w 8 (evens rows)
   upper z l =
-      let t = top-even in
+      let t = top-even last closes w h px in
       field-reads last closes unit z w 8 (evens rows) refl (rows-evens w rows (rows-four w h px e k)) (spells-front unit 8 top bottom spelled) (omega arith)
 
   lower : FieldReads last closes unit (4 + length fields) w (8 + length top) (odds rows)
   lower =
-      let t = top-even in
-      let f = fields-length in
+      let t = top-even last closes w h px in
+      let f = fields-length last closes w h px in
       field-reads last closes unit (4 + length fields) w (8 + length top) (odds rows) (omega arith) (rows-odds w rows (rows-four w h px e k)) (spells-rest unit 8 top bottom spelled) (omega arith)
 
   abbrev listing : List (List Code)
@@ -310,26 +317,26 @@ module _ (last : ℕ → ℕ → List Mark) (closes : Closes last) (w h : ℕ) (
   starts-top : second ≤ topEnd (4 + length fields) (record { top = 4; bottom = second })
   unfolding topEnd
   starts-top =
-      let f = fields-length in
-      let t = top-even in
+      let f = fields-length last closes w h px in
+      let t = top-even last closes w h px in
       ⊎-elim (λ (l : second ≤ 4). rw (le-ltb 4 second l) (omega arith)) (λ (l : 4 < second). rw (lt-ltb 4 second l) (omega arith)) (le-or-lt second 4)
 
   bottom-rows : (rs : List (List ℕ)) → odds rows ≡ rs → Bottom unit (4 + length fields) second w (placedRows last closes (8 + length top) (odds rows))
   unfolding fieldNibbles placedRows Stay0 Rows
   bottom-rows [] q =
-      let f = fields-length in
-      let t = top-even in
+      let f = fields-length last closes w h px in
+      let t = top-even last closes w h px in
       let n : length bottom ≡ 0 = ap (λ (l : List (List ℕ)). length (fieldNibbles last l)) q in
       inr (inr (omega arith), rw q tt)
   bottom-rows (r ∷ rs) q =
-      let f = fields-length in
-      let t = top-even in
+      let f = fields-length last closes w h px in
+      let t = top-even last closes w h px in
       let v : Rows w (r ∷ rs) = subst (Rows w) q (rows-odds w rows (rows-four w h px e k)) in
       let n : length bottom ≡ length (rowNibbles last r ++ fieldNibbles last rs) = ap (λ (l : List (List ℕ)). length (fieldNibbles last l)) q in
       let a = length-append (rowNibbles last r) (fieldNibbles last rs) in
       let s = row-some last closes w r wide (v .0) (v .1) in
       let p : 2 * second ≡ 8 + length top = omega arith in
-      let d = bottom-even in
+      let d = bottom-even last closes w h px in
       inl (omega arith, omega arith, rw p (lower .rows))
 
   abbrev blocks : List Block

@@ -11,7 +11,7 @@ use lib.Dec.{leb}
 use borrow.Author.Tests.{le-leb, lt-leb, leb-true, eq-eqb, ne-eqb}
 use Rattle.outcome.specs.Outcome.{Res, listed, bad-side, not-all-indices, bad-index, long-unit, short-output}
 use Rattle.outcome.proofs.Laws.{and-true, sets-append}
-use Rattle.grammar.specs.Picture.{evens, odds}
+use Rattle.grammar.specs.Picture.{evens}
 use Rattle.demo.specs.Codes.{lastMarks, packed, pictureRows, fieldNibbles}
 use Rattle.demo.specs.Unit.{wordBytes, controlBytes, topNibbles, bottomNibbles, unitOf, isSide, allColours, pictureOk, sizedUnit, demoAt}
 use Rattle.demo.specs.Answers.{half, Inked, Sound, EndsOf, FieldsWritten, demoGiven, Written}
@@ -20,8 +20,7 @@ use Rattle.demo.specs.declared.Ends.{Ends}
 use Rattle.demo.specs.declared.DemoAnswer.{DemoAnswer}
 use Rattle.demo.specs.declared.DemoAnswer.the-variants as demo-answer
 use Rattle.demo.proofs.Marks.{fill-closes}
-use Rattle.demo.proofs.Fields.{even-length}
-use Rattle.demo.proofs.Pack.{length-packed}
+use Rattle.demo.proofs.Unit.{top-even, fields-length}
 use Rattle.demo.proofs.Ink.{inked-as}
 use Rattle.demo.proofs.Picture.{fromRow, rows-tail, colours-four}
 
@@ -38,15 +37,6 @@ module _ (w h : ℕ) (px : List ℕ) where
   from-bottom : fromRow w h px 1 ≡ bottom
   from-bottom = ap (λ (k : ℕ). fieldNibbles lastMarks (evens (pictureRows w (h - 1) (drop k px)))) (one-mul w) ∙ ap (λ (l : List (List ℕ)). fieldNibbles lastMarks (evens l)) (sym (rows-tail w h px))
 
-  top-even : length top % 2 ≡ 0
-  top-even = even-length lastMarks fill-closes (evens (pictureRows w h px))
-
-  bottom-even : length bottom % 2 ≡ 0
-  bottom-even = even-length lastMarks fill-closes (odds (pictureRows w h px))
-
-  packed-half : 2 * length (packed (top ++ bottom)) ≡ length top + length bottom
-  packed-half = let a = length-packed (top ++ bottom) in let b = length-append top bottom in let c = top-even in let d = bottom-even in omega arith
-
   -- ---- Both fields
 
   -- nothing is written yet
@@ -60,14 +50,14 @@ module _ (w h : ℕ) (px : List ℕ) where
       → (e : Ends) → e .top ≡ t .pos → e .all ≡ r .pos → e .all ≤ 200000000 → FieldsWritten w h px out e out′
   fields-written out mid out′ v t r a b f g e p q m =
       let x = inked-as (fromRow w h px 0) top out t mid from-top (f [] out (omega arith) (none-inked out v a b)) in
-      let y = inked-as (top ++ fromRow w h px 1) (top ++ bottom) out r out′ (ap (λ (l : List ℕ). top ++ l) from-bottom) (g top out top-even x) in
+      let y = inked-as (top ++ fromRow w h px 1) (top ++ bottom) out r out′ (ap (λ (l : List ℕ). top ++ l) from-bottom) (g top out (top-even lastMarks fill-closes w h px) x) in
       record { ends = record { top = p ∙ x .count; all = q ∙ y .count ∙ length-append top bottom }; most = m; bytes = y .bytes }
 
   -- ---- The unit
 
   module _ (e : Ends) (d : EndsOf w h px e) where
     control-is : 4 + e .all / 2 ≡ 4 + length (packed (top ++ bottom))
-    control-is = let a = d .all in let b = packed-half in omega arith
+    control-is = let a = d .all in let b = fields-length lastMarks fill-closes w h px in omega arith
 
     bottom-is : 4 + e .top / 2 ≡ 4 + length top / 2
     bottom-is = let a = d .top in omega arith

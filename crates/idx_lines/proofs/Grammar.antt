@@ -16,7 +16,7 @@ use Rattle.grammar.specs.IndexNumbers.{Valued, Hex}
 use Rattle.grammar.specs.IndexParts.{parting, tokenByte, unlike, All, Span, StartsWith, Halves, First, NoneOf, Last, comma, colon, letter-x}
 use Rattle.grammar.specs.Parts.{Part}
 use Rattle.idx_numbers.specs.Numbers.{unsigned, signed, bare, hex, orElse, positionOf}
-use Rattle.idx_numbers.specs.Parts.{part, valued, front, rest, trim, split, strip, after, found, starts}
+use Rattle.idx_numbers.specs.Parts.{part, valued, front, rest, trim, split, strip, after, found}
 use Rattle.idx_lines.specs.Lines.{Two, halved, halves, sizeOr, consWith, tokenAnd, tokens, fields, stays, steps, firstOf, lastOf, isFilepos, timestampAt, byWord, lineOf, isOther, partsAt, positionAt}
 use Rattle.outcome.proofs.Laws.{ok-injective, ok-not-refuse, check-ok, and-true}
 use Rattle.idx_numbers.proofs.Leaves.{never, same-part, span-is, span-one, trim-is, trim-one, split-is, split-one, strip-on, strip-is, strip-none, none-strip, after-iff, unsigned-is, unsigned-one, signed-is, signed-one, hex-iff, position-iff, trims-is, trims-one}

@@ -16,15 +16,12 @@ use Rattle.idx_numbers.specs.Numbers.{unsigned}
 use Rattle.idx_numbers.specs.Parts.{part, front, rest, trim, trimmed}
 use Rattle.idx_lines.specs.Answers.{lean, sized}
 use Rattle.idx_lines.specs.Lines.{halves, sizeOr}
-use Rattle.idx_numbers.proofs.Turns.{take-front, drop-front, front-le}
+use Rattle.idx_numbers.proofs.Turns.{take-front, drop-front}
 use Rattle.idx_numbers.specs.declared.Number.{Number}
 use Rattle.idx_numbers.specs.declared.Number.the-variants.{Bad, Is}
 
 -- the first byte x of s is at a
 module _ (x : ℕ) (s : List ℕ) (a : ℕ) (lead : a ≡ length (front (unlike x) s)) where
-  pub other-le : a ≤ length s
-  other-le = rw lead (front-le (unlike x) s)
-
   rest-is : drop a s ≡ rest (unlike x) s
   rest-is = ap (λ (n : ℕ). drop n s) lead ∙ drop-front (unlike x) s
 

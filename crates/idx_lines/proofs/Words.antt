@@ -63,10 +63,6 @@ palette-apart-size : (l : List ℕ) → starts palette-word l ≡ true → start
 unfolding strip
 palette-apart-size l e = apart palette-word size-word l (λ r. refl) e
 
-size-apart-palette : (l : List ℕ) → starts size-word l ≡ true → starts palette-word l ≡ false
-unfolding strip
-size-apart-palette l e = apart size-word palette-word l (λ r. refl) e
-
 module _ (l was : List ℕ) where
   same-palette : starts palette-word l ≡ false → was ≡ paletteAfter was l
   unfolding paletteAfter

@@ -15,7 +15,7 @@ use Rattle.grammar.specs.Index.{Said, size, palette, timestamp, palette-word, t
 use Rattle.grammar.specs.IndexCues.{some-token}
 use Rattle.idx_numbers.specs.Parts.{part, front, rest, trimmed, split, starts}
 use Rattle.idx_numbers.specs.Numbers.{digits, signed, hex, positionOf}
-use Rattle.idx_lines.specs.Lines.{tokens, paletteAt, fields, steps, firstOf, lastOf, isFilepos, isOther, partsAt, lineOf}
+use Rattle.idx_lines.specs.Lines.{paletteAt, fields, steps, firstOf, lastOf, isFilepos, isOther, partsAt, lineOf}
 use Rattle.idx_lines.specs.declared.Line.{Line}
 use Rattle.idx_lines.specs.declared.Line.the-variants as line
 use Rattle.idx_lines.specs.declared.Found.{Found}

@@ -2,22 +2,26 @@
 use Prim.Native.Nat.{ℕ, _+_, _-_, _≤_}
 use native.Mathlib.Omega.{arith}
 use mathlib.Core.Path.{_≡_, refl, sym, ap, _∙_, subst}
-use mathlib.Core.List.{List}
+use mathlib.Core.Bool.{Bool, true, false, cond}
+use mathlib.Core.Logic.{_⊎_, inl, inr, ⊎-elim}
+use mathlib.Core.List.{List, []}
 use lib.ListN.{length, take, drop}
 use lib.Seq.{sets, sets-eq, length-slice, take-at}
-use lib.Dec.{leb}
+use lib.Dec.{leb, ltb}
 use borrow.Author.Tests.{leb-true, le-leb}
-use Rattle.outcome.specs.Outcome.{Res, ok, refuse, short-scratch}
-use Rattle.outcome.proofs.Laws.{ok-not-refuse, ok-injective, check-ok, andThen-ok, part-slice}
+use Rattle.outcome.specs.Outcome.{Res, ok, refuse, mapRes, past-file, no-unit, short-scratch}
+use Rattle.outcome.proofs.Laws.{ok-not-refuse, ok-injective, check-ok, check-refuse, andThen-ok, andThen-refuse, mapRes-refuse, part-slice}
+use Rattle.outcome.proofs.Lists.{list-refuses}
 use Rattle.grammar.specs.Bytes.{word}
 use Rattle.grammar.specs.Packets.{Form, bare, packets, IsForm, unitOf, subpicture}
-use Rattle.ps.specs.Packets.{formAt}
+use Rattle.ps.specs.Packets.{part, Stand, stand, standDone, standPacket, standNext, packetsAt, isBare, formAt}
 use Rattle.ps.specs.Unit.{scratchFor, unitAt}
 use Rattle.ps.specs.Answers.{formGiven, formStored, unitGiven, unitStored, unitPart, Extracted}
 use Rattle.ps.specs.Claim.{Holds, Says}
 use Rattle.ps.specs.declared.UnitAnswer.{UnitAnswer}
 use Rattle.ps.specs.declared.UnitAnswer.the-variants as unit-answer
-use Rattle.ps.proofs.Laws.{form-iff}
+use Rattle.ps.proofs.Laws.{packet-falls, form-iff}
+use Rattle.ps.proofs.Read.{packet-refuses}
 
 module _ (f : List ℕ) (p : ℕ) where
   -- a unit is found with n bytes of scratch exactly where it is found and they are enough
@@ -69,3 +73,21 @@ module _ (f : List ℕ) (p : ℕ) where
       go (ok m) q e g = subst (Says f p s s′) (sym e) (said m (holds m q g))
       go (refuse n) q e g =
           subst (Says f p s s′) (sym e) (g, λ m l i k. ok-not-refuse (sym q ∙ unit-complete (length s) m (form-iff subpicture f p m .1 (l, i)) k))
+
+  -- a refusal is 12, 13 or 14
+  pub unit-refuses : (n k : ℕ) → unitAt subpicture f p n ≡ refuse k → (k ≡ past-file) ⊎ ((k ≡ no-unit) ⊎ (k ≡ short-scratch))
+  unfolding unitAt formAt packetsAt
+  unit-refuses n k e =
+      ⊎-elim (λ a. ⊎-elim inl form (check-refuse (ltb p (length f)) past-file _ a))
+      (λ a. ⊎-elim (λ b. inr (inr b)) (λ b. ok-not-refuse (sym b)) (check-refuse (leb (scratchFor (a .0)) n) short-scratch (ok (a .0)) (a .2)))
+      (andThen-refuse (formAt subpicture f p) _ e)
+    where
+      form : cond (isBare subpicture f p) (ok (bare (part f p (p + word f p)))) (mapRes packets (packetsAt subpicture f p [])) ≡ refuse k → (k ≡ past-file) ⊎ ((k ≡ no-unit) ⊎ (k ≡ short-scratch))
+      form q = go (isBare subpicture f p) q
+        where
+          go : (t : Bool) → cond t (ok (bare (part f p (p + word f p)))) (mapRes packets (packetsAt subpicture f p [])) ≡ refuse k → (k ≡ past-file) ⊎ ((k ≡ no-unit) ⊎ (k ≡ short-scratch))
+          go true g = ok-not-refuse (sym g)
+          go false g =
+              inr
+              (inl
+              (list-refuses (standDone subpicture) (standPacket subpicture f) (standNext subpicture) (λ (s : Stand subpicture). length f - s .place) (packet-falls subpicture f) (λ (m : ℕ). m ≡ no-unit) (λ s m r. packet-refuses f (s .place) m r) (stand subpicture p []) k (mapRes-refuse packets (packetsAt subpicture f p []) g)))

@@ -44,7 +44,7 @@ module _ (f : List ℕ) (p : ℕ) where
           go true g = let z : no-unit ≡ n = cc in sym z
           go false g = ok-not-refuse (sym g)
 
-  packet-refuses : (n : ℕ) → packetAt subpicture f p ≡ refuse n → n ≡ no-unit
+  pub packet-refuses : (n : ℕ) → packetAt subpicture f p ≡ refuse n → n ≡ no-unit
   unfolding packetAt
   packet-refuses n q =
       ⊎-elim (λ x. x)

@@ -1,6 +1,6 @@
 -- `idx_numbers::plus` meets its contract. Assumes nothing.
 use mathlib.Core.Path.{ap₂}
-use lib.IntN.{ℤ, pos, negsuc, _+ℤ_, _-ℤ_}
+use lib.IntN.{pos, negsuc, _+ℤ_, _-ℤ_}
 use mir.Syntax.{w64}
 use mir.ValLaws.{toZ-ofZ}
 use Rattle.idx_numbers.proofs.Times.{yes-lt, no-lt, over-checked, done, low-room, low-over, low-stays, mixed-left, mixed-right, high-room, high-over, high-stays}
