@@ -1,7 +1,7 @@
 -- `demo_rows::all` is safe and ends: each turn is one picture more. Assumes nothing.
 use borrow.Author.Needs.{needs}
 use native.Mathlib.Omega.{arith}
-use mathlib.Core.Path.{_≡_, refl, _∙_}
+use mathlib.Core.Path.{_≡_, _∙_}
 use Prim.Native.Nat.{_≤_, _-_}
 use lib.ListN.{length}
 use Rattle.demo_rows.proofs.all.Statement.{statement}

@@ -1,9 +1,7 @@
 -- `demo_rows::same` is safe and ends: the place is within the bytes. Assumes nothing.
 use borrow.Author.Needs.{needs}
-use native.Mathlib.Omega.{arith}
-use mathlib.Core.Path.{_≡_, refl, _∙_}
 use Prim.Native.Nat.{_≤_, _-_}
-use lib.ListN.{length, length-set}
+use lib.ListN.{length}
 use Rattle.demo_rows.proofs.same.Statement.{statement}
 use Rattle.demo_rows.proofs.same.Tie as tie
 
