@@ -3,18 +3,22 @@ use Prim.Native.Nat.{ℕ, zero, suc, _+_, _-_, _*_, _/_, _≤_, _<_, min}
 use native.Mathlib.Numerals.{add-one, add-two, add-three}
 use native.Mathlib.Omega.{arith}
 use mathlib.Core.Path.{_≡_, refl, ap, sym, _∙_}
-use mathlib.Core.Bool.{Bool, true, false, cond, _&&_}
+use mathlib.Core.Bool.{Bool, true, false, cond, _&&_, _||_}
 use mathlib.Core.Logic.{⊎-elim}
-use mathlib.Core.Option.{Option}
+use mathlib.Core.Option.{Option, none}
 use mathlib.Core.List.{List, [], _∷_, _++_, append-assoc}
 use lib.Dec.{leb}
 use lib.ListN.{length, getD, drop, length-drop}
 use lib.Seq.{drop-cons, drop-drop}
-use Rattle.outcome.proofs.Laws.{le-or-lt}
+use Rattle.outcome.proofs.Laws.{clash, le-or-lt}
 use Rattle.grammar.specs.Bands.{Entry, Band, Bands, entryWords, bandWords, bandEnd}
 use Rattle.grammar.specs.Look.{Look, rightmost, lastLook, lookAt}
 use Rattle.chg_colcon.specs.Claim.{Counted}
-use Rattle.chg_colcon.specs.Look.{pickEntry, looking, lookWords, entriesLook, bandLook}
+use Rattle.chg_colcon.specs.Look.{pickEntry, looking, lookWords, spanning, spansLine, entriesLook, bandLook}
+
+or-false : (a b : Bool) → (a || b) ≡ false → (a ≡ false) × (b ≡ false)
+or-false true b h = absurd (clash true refl h)
+or-false false b h = (refl, h)
 
 -- three words at a place
 pub drop3 : (ws : List ℕ) (i : ℕ) → i + 3 ≤ length ws → drop i ws ≡ getD ws i 0 ∷ getD ws (i + 1) 0 ∷ getD ws (i + 2) 0 ∷ drop (i + 3) ws
@@ -99,6 +103,69 @@ bands-more x y i n o r ws h q f =
 
 pub bands-end : (x y i : ℕ) (o : Option Look) (ws : List ℕ) → length ws - i < 3 → o ≡ looking x y 0 false o (drop i ws)
 bands-end x y i o ws h = sym (looking-short x y 0 false o (drop i ws) (rw (length-drop i ws) h))
+
+-- ---- Whether a band spans a line
+
+spanning-short : (y left : ℕ) (ws : List ℕ) → length ws < 3 → spanning y left ws ≡ false
+unfolding spanning
+spanning-short y left [] h = refl
+spanning-short y left (a ∷ []) h = refl
+spanning-short y left (a ∷ b ∷ []) h = refl
+spanning-short y left (a ∷ b ∷ c ∷ ws) h = absurd (omega arith)
+
+spanning-entries : (y n m : ℕ) (ws : List ℕ) → n ≤ m → 3 * n ≤ length ws → spanning y m ws ≡ spanning y (m - n) (drop (3 * n) ws)
+unfolding spanning
+spanning-entries y zero m ws h l = let z : m - 0 ≡ m = omega arith in rw z
+spanning-entries y (suc n) zero ws h l = absurd (omega arith)
+spanning-entries y (suc n) (suc m) [] h l = absurd (omega arith)
+spanning-entries y (suc n) (suc m) (a ∷ []) h l = absurd (omega arith)
+spanning-entries y (suc n) (suc m) (a ∷ b ∷ []) h l = absurd (omega arith)
+spanning-entries y (suc n) (suc m) (a ∷ b ∷ c ∷ ws) h l =
+    let z : suc m - suc n ≡ m - n = omega arith in
+    let w : 3 * suc n ≡ suc (suc (suc (3 * n))) = omega arith in
+    rw (z, w) (spanning-entries y n m ws (omega arith) (omega arith))
+
+spanning-rest : (y c n : ℕ) (ws : List ℕ) → n ≡ min c (length ws / 3) → spanning y 0 (drop (3 * n) ws) ≡ spanning y c ws
+spanning-rest y c n ws q =
+    let l : 3 * n ≤ length ws = omega arith in
+    let h : n ≤ c = omega arith in
+    ⊎-elim
+    (λ (f : c ≤ n). let z : c - n ≡ 0 = omega arith in sym (spanning-entries y n c ws h l ∙ rw z))
+    (λ (f : n < c).
+    let r : length (drop (3 * n) ws) < 3 = rw (length-drop (3 * n) ws) (omega arith) in
+    spanning-short y 0 (drop (3 * n) ws) r ∙ sym (spanning-entries y n c ws h l ∙ spanning-short y (c - n) (drop (3 * n) ws) r))
+    (le-or-lt c n)
+
+-- at a band that spans the line, after one that does not, and with no band left
+pub line-found : (y i : ℕ) (ws : List ℕ) → i + 3 ≤ length ws → (leb (getD ws i 0) y && leb y (getD ws (i + 1) 0)) ≡ true → true ≡ spanning y 0 (drop i ws)
+unfolding spanning
+line-found y i ws h t = rw (drop3 ws i h, t)
+
+pub line-more : (y i n : ℕ) (ws : List ℕ) → i + 3 ≤ length ws → n ≡ min (getD ws (i + 2) 0) ((length ws - (i + 3)) / 3)
+    → (leb (getD ws i 0) y && leb y (getD ws (i + 1) 0)) ≡ false
+    → spanning y 0 (drop (i + 3 + 3 * n) ws) ≡ spanning y 0 (drop i ws)
+unfolding spanning
+line-more y i n ws h q t =
+    let m : n ≡ min (getD ws (i + 2) 0) (length (drop (i + 3) ws) / 3) = rw (length-drop (i + 3) ws) q in
+    rw (drop3 ws i h, t, ← drop-drop (3 * n) (i + 3) ws) (spanning-rest y (getD ws (i + 2) 0) n (drop (i + 3) ws) m)
+
+pub line-end : (y i : ℕ) (ws : List ℕ) → length ws - i < 3 → false ≡ spanning y 0 (drop i ws)
+line-end y i ws h = sym (spanning-short y 0 (drop i ws) (rw (length-drop i ws) h))
+
+-- bands that do not span a line say nothing on it
+unspanned : (x y left : ℕ) (o : Option Look) (ws : List ℕ) → spanning y left ws ≡ false → looking x y left false o ws ≡ o
+unfolding looking spanning
+unspanned x y left o [] h = refl
+unspanned x y left o (a ∷ []) h = refl
+unspanned x y left o (a ∷ b ∷ []) h = refl
+unspanned x y zero o (a ∷ b ∷ c ∷ ws) h =
+    let g = or-false (leb a y && leb y b) (spanning y c ws) h in
+    rw (g .0) (unspanned x y c o ws (g .1))
+unspanned x y (suc n) o (a ∷ b ∷ c ∷ ws) h = unspanned x y n o ws h
+
+pub look-unspanned : (x y : ℕ) (ws : List ℕ) → spansLine y ws ≡ false → lookWords x y ws ≡ none
+unfolding lookWords spansLine
+look-unspanned x y ws h = unspanned x y 0 none ws h
 
 -- ---- Words of listed bands
 

@@ -1,7 +1,7 @@
 -- What stored words give at a place of the display (FORMAT 4.6), for any words: they are taken three at a time, and one or two at the end say nothing.
 -- Assumes nothing: these are definitions.
 use Prim.Native.Nat.{ℕ, zero, suc}
-use mathlib.Core.Bool.{Bool, false, cond, _&&_}
+use mathlib.Core.Bool.{Bool, false, cond, _&&_, _||_}
 use mathlib.Core.Option.{Option, some, none}
 use mathlib.Core.List.{List, [], _∷_}
 use lib.Dec.{leb}
@@ -31,6 +31,17 @@ looking x y (suc n) s o (a ∷ b ∷ c ∷ ws) = looking x y n s (cond s (pickEn
 
 unfoldable pub lookWords : ℕ → ℕ → List ℕ → Option Look
 lookWords x y ws = looking x y 0 false none ws
+
+-- whether one of the bands spans line y, with `left` entries of the band before them to go
+unfoldable pub spanning : ℕ → ℕ → List ℕ → Bool
+spanning y left [] = false
+spanning y left (a ∷ []) = false
+spanning y left (a ∷ b ∷ []) = false
+spanning y zero (a ∷ b ∷ c ∷ ws) = (leb a y && leb y b) || spanning y c ws
+spanning y (suc n) (a ∷ b ∷ c ∷ ws) = spanning y n ws
+
+unfoldable pub spansLine : ℕ → List ℕ → Bool
+spansLine y ws = spanning y 0 ws
 
 -- n entries at the front of ws
 unfoldable pub entriesLook : ℕ → Option Look → ℕ → List ℕ → Option Look

@@ -8,7 +8,9 @@ ghost use lib.ListN.{length, getD, drop, set};
 ghost use lib.Seq.{sets};
 ghost use Rattle.chg_colcon.specs.Bands.{wordOf, header, headOf, entryOf, bandsOf, entriesOf};
 ghost use Rattle.chg_colcon.specs.Answers.{countOf, Stored, restOf, Goes, ListRead};
-ghost use Rattle.chg_colcon.specs.Look.{told, pickEntry, entriesLook, bandLook, lookWords};
+ghost use Rattle.chg_colcon.specs.Look.{told, pickEntry, entriesLook, bandLook, lookWords, spansLine};
+ghost use mathlib.Core.Bool.{_&&_};
+ghost use lib.Dec.{leb};
 
 // What a list of bands gives.
 pub enum BandAnswer {
@@ -317,4 +319,30 @@ pub fn chg_colcon_lookup(words: &[u16], x: u16, y: u16) -> LookAnswer
         at = from + 3 * n;
     }
     look
+}
+
+fn is_between(first: u16, last: u16, y: u16) -> bool
+    ensures { λ r. ⌜ r ≡ (leb first y && leb y last) ⌝ }
+{
+    if first <= y {
+        return y <= last;
+    }
+    false
+}
+
+// Whether one of the stored bands spans line y, with entries or without. Any words are read.
+// Ruled out: the first band alone; a band's entries taken for headers.
+pub fn spans_line(words: &[u16], y: u16) -> bool
+    ensures { λ r. ⌜ r ≡ spansLine y (now (words .entry)) ⌝ }
+{
+    let mut at: usize = 0;
+    while 3 <= words.len() - at {
+        if is_between(words[at], words[at + 1], y) {
+            return true;
+        }
+        let from = at + 3;
+        let n = fewer(words[at + 2] as usize, (words.len() - from) / 3);
+        at = from + 3 * n;
+    }
+    false
 }

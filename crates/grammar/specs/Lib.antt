@@ -12,3 +12,5 @@ pub mod IndexParts
 pub mod IndexNumbers
 pub mod Index
 pub mod IndexCues
+pub mod Canvas
+pub mod Reading

@@ -151,3 +151,8 @@ unitOf (packets ps) = take (word (joined ps) 0) (joined ps)
 abbrev pub IsForm : (ℕ → Bool) → List ℕ → ℕ → Form → Type 0
 IsForm id f at (bare p) = Bare f at × IsPart f at (at + word f at) p
 IsForm id f at (packets ps) = (Bare f at → ⊥) × Packets id f at [] ps
+
+-- how much scratch a form takes: only packets take any (FORMAT 2.9)
+abbrev pub scratchFor : Form → ℕ
+scratchFor (bare u) = 0
+scratchFor (packets ps) = length (unitOf (packets ps))

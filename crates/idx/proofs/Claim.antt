@@ -141,7 +141,7 @@ module _ (text : List ℕ) (starts : List ℤ) (positions : List ℕ) (r : IdxAn
 
 -- ---- one cue
 module _ (text : List ℕ) (n : ℕ) (r : CueAnswer) (h : r ≡ cueAnswer (pickOf (textOf text) n)) where
-  picked : (ls : List Said) → textOf text ≡ ok ls → (c : Cue) → cueAt (cuesOf ls) n ≡ some c → (r .refused ≡ 0) × GivesCue ls n c r
+  pub picked : (ls : List Said) → textOf text ≡ ok ls → (c : Cue) → cueAt (cuesOf ls) n ≡ some c → (r .refused ≡ 0) × GivesCue ls n c r
   unfolding pickOf cueAnswer
   picked ls e c f =
       let p : pickOf (textOf text) n ≡ ok (record { cue = c; duration = durationOf (cuesOf ls) n; palette = paletteOf ls; coloured = hasPalette ls }) = rw (e, f) in
@@ -157,7 +157,7 @@ module _ (text : List ℕ) (n : ℕ) (r : CueAnswer) (h : r ≡ cueAnswer (pickO
         },
       )
 
-  has : (lines : Res (List Said)) → textOf text ≡ lines → r .refused ≡ 0 → (ls : List Said) × (textOf text ≡ ok ls) × (n < length (cuesOf ls))
+  pub has : (lines : Res (List Said)) → textOf text ≡ lines → r .refused ≡ 0 → (ls : List Said) × (textOf text ≡ ok ls) × (n < length (cuesOf ls))
   unfolding pickOf cueAnswer
   has (refuse m) e z =
       let p : pickOf (textOf text) n ≡ refuse m = rw e in

@@ -79,6 +79,9 @@ short-pixels = 22
 abbrev pub short-words : ℕ
 short-words = 23
 
+abbrev pub short-canvas : ℕ
+short-canvas = 24
+
 abbrev pub no-top-field : ℕ
 no-top-field = 25
 

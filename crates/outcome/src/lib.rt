@@ -69,6 +69,9 @@ pub const SHORT_PIXELS: u8 = 22;
 // The lent words are too few for the bands.
 pub const SHORT_WORDS: u8 = 23;
 
+// The lent canvas is shorter than four times width times height.
+pub const SHORT_CANVAS: u8 = 24;
+
 // The top field starts at the unit's end or past it.
 pub const NO_TOP_FIELD: u8 = 25;
 

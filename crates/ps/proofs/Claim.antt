@@ -13,9 +13,9 @@ use Rattle.outcome.specs.Outcome.{Res, ok, refuse, mapRes, past-file, no-unit, 
 use Rattle.outcome.proofs.Laws.{ok-not-refuse, ok-injective, check-ok, check-refuse, andThen-ok, andThen-refuse, mapRes-refuse, part-slice}
 use Rattle.outcome.proofs.Lists.{list-refuses}
 use Rattle.grammar.specs.Bytes.{word}
-use Rattle.grammar.specs.Packets.{Form, bare, packets, IsForm, unitOf, subpicture}
+use Rattle.grammar.specs.Packets.{Form, bare, packets, IsForm, unitOf, scratchFor, subpicture}
 use Rattle.ps.specs.Packets.{part, Stand, stand, standDone, standPacket, standNext, packetsAt, isBare, formAt}
-use Rattle.ps.specs.Unit.{scratchFor, unitAt}
+use Rattle.ps.specs.Unit.{unitAt}
 use Rattle.ps.specs.Answers.{formGiven, formStored, unitGiven, unitStored, unitPart, Extracted}
 use Rattle.ps.specs.Claim.{Holds, Says}
 use Rattle.ps.specs.declared.UnitAnswer.{UnitAnswer}
@@ -25,7 +25,7 @@ use Rattle.ps.proofs.Read.{packet-refuses}
 
 module _ (f : List ℕ) (p : ℕ) where
   -- a unit is found with n bytes of scratch exactly where it is found and they are enough
-  unit-sound : (n : ℕ) (m : Form) → unitAt subpicture f p n ≡ ok m → (formAt subpicture f p ≡ ok m) × (scratchFor m ≤ n)
+  pub unit-sound : (n : ℕ) (m : Form) → unitAt subpicture f p n ≡ ok m → (formAt subpicture f p ≡ ok m) × (scratchFor m ≤ n)
   unfolding unitAt
   unit-sound n m e =
       let a = andThen-ok (formAt subpicture f p) _ e in
@@ -33,12 +33,12 @@ module _ (f : List ℕ) (p : ℕ) where
       let q = ok-injective (b .1) in
       (a .1 ∙ ap ok q, subst (λ (x : Form). scratchFor x ≤ n) q (leb-true _ _ (b .0)))
 
-  unit-complete : (n : ℕ) (m : Form) → formAt subpicture f p ≡ ok m → scratchFor m ≤ n → unitAt subpicture f p n ≡ ok m
+  pub unit-complete : (n : ℕ) (m : Form) → formAt subpicture f p ≡ ok m → scratchFor m ≤ n → unitAt subpicture f p n ≡ ok m
   unfolding unitAt
   unit-complete n m e h = rw (e, le-leb (scratchFor m) n h)
 
   -- the part that an answer speaks of is the unit
-  unit-there : (s : List ℕ) (m : Form) → IsForm subpicture f p m → scratchFor m ≤ length s → unitPart f (sets s 0 (formStored m)) p (formGiven m) ≡ unitOf m
+  pub unit-there : (s : List ℕ) (m : Form) → IsForm subpicture f p m → scratchFor m ≤ length s → unitPart f (sets s 0 (formStored m)) p (formGiven m) ≡ unitOf m
   unfolding unitOf
   unit-there s (bare u) h k =
       let b = h .1 .bytes-are in

@@ -4,8 +4,7 @@ use mathlib.Core.Path.{_≡_}
 use mathlib.Core.List.{List}
 use lib.ListN.{length}
 use lib.Seq.{sets}
-use Rattle.grammar.specs.Packets.{Form, IsForm, unitOf, subpicture}
-use Rattle.ps.specs.Unit.{scratchFor}
+use Rattle.grammar.specs.Packets.{Form, IsForm, unitOf, scratchFor, subpicture}
 use Rattle.ps.specs.Answers.{formGiven, formStored, unitPart}
 use Rattle.ps.specs.declared.UnitAnswer.{UnitAnswer}
 use Rattle.ps.specs.declared.UnitAnswer.the-variants as unit-answer

@@ -3,15 +3,9 @@ use Prim.Native.Nat.{ℕ}
 use mathlib.Core.Bool.{Bool}
 use mathlib.Core.List.{List, []}
 use lib.Dec.{leb}
-use lib.ListN.{length}
 use Rattle.outcome.specs.Outcome.{Res, ok, check, andThen, mapRes, short-scratch}
-use Rattle.grammar.specs.Packets.{Form, bare, packets, unitOf}
+use Rattle.grammar.specs.Packets.{Form, packets, scratchFor}
 use Rattle.ps.specs.Packets.{packetsAt, formAt}
-
--- how much scratch a form takes: only packets take any (FORMAT 2.9)
-abbrev pub scratchFor : Form → ℕ
-scratchFor (bare u) = 0
-scratchFor (packets ps) = length (unitOf (packets ps))
 
 -- a form for which n bytes of scratch are enough
 abbrev pub withScratch : ℕ → Res Form → Res Form

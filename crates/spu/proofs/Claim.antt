@@ -20,7 +20,7 @@ use Rattle.spu.specs.declared.SpuAnswer.the-variants as spu-answer
 use Rattle.spu.proofs.Grammar.{unit-iff}
 
 -- a unit is found within lent lengths exactly where it is found and they are long enough
-in-sound : (u : List ℕ) (n m : ℕ) (l : ListedUnit) → unitIn u n m ≡ ok l → (unitAt u ≡ ok l) × LongEnough l n m
+pub in-sound : (u : List ℕ) (n m : ℕ) (l : ListedUnit) → unitIn u n m ≡ ok l → (unitAt u ≡ ok l) × LongEnough l n m
 unfolding unitIn unitAt
 in-sound u n m l e =
     let a = andThen-ok (controlAt u) _ e in

@@ -1,0 +1,101 @@
+-- A reading of index text and file for a cue, what makes it one, and what it gives (FORMAT 6.4 to 6.6).
+-- It is found by nobody here: it passes or fails. Assumes nothing: these are definitions.
+use Prim.Native.Nat.{ℕ, _*_, _≤_, _<_}
+use mathlib.Core.Path.{_≡_}
+use mathlib.Core.Bool.{Bool}
+use mathlib.Core.Option.{Option, some, none}
+use mathlib.Core.List.{List, map}
+use lib.ListN.{length}
+use lib.IntN.{ℤ, pos}
+use Rattle.grammar.specs.Index.{Said, IsText}
+use Rattle.grammar.specs.IndexCues.{Cue, cuesOf, cueAt, paletteOf, durationOf}
+use Rattle.grammar.specs.Packets.{Form, IsForm, unitOf, scratchFor, subpicture}
+use Rattle.grammar.specs.Bands.{bandWords}
+use Rattle.grammar.specs.Record.{Told, told, delayOf, width, height}
+use Rattle.grammar.specs.Picture.{ListedUnit, IsUnit}
+use Rattle.grammar.specs.Pixels.{rowPixels, indexMap, codesIn}
+use Rattle.grammar.specs.Canvas.{toldLook, canvasBytes}
+
+-- what a caller asks for: the number of a cue
+pub record Wanted : Type 0 where
+  pub cue : ℕ
+
+-- the ids of the packets that keep anything (FORMAT 2.6)
+abbrev pub wantedId : Wanted → ℕ → Bool
+wantedId q = subpicture
+
+-- every line that says something, which of their cues is read, how its unit stands in the file, and the unit's blocks and rows
+pub record Reading : Type 0 where
+  pub lines : List Said
+  pub cue : ℕ
+  pub form : Form
+  pub unit : ListedUnit
+
+-- r is a reading of these files for the cue that is asked for
+pub record IsReading (text file : List ℕ) (q : Wanted) (r : Reading) : Type 0 where
+  pub text-is : IsText text (r .lines)
+  pub cue-is : r .cue ≡ q .cue
+  pub at : Cue
+  pub listed : cueAt (cuesOf (r .lines)) (r .cue) ≡ some at
+  pub before-end : at .position < length file
+  pub form-is : IsForm (wantedId q) file (at .position) (r .form)
+  pub unit-is : IsUnit (unitOf (r .form)) (r .unit)
+
+-- ---- What a reading gives
+
+-- what its commands told
+abbrev pub toldBy : Reading → Told
+toldBy r = told (r .unit .blocks)
+
+-- times, origin, size and number of codes
+pub record Shown : Type 0 where
+  pub start : ℤ
+  pub duration : Option ℕ
+  pub start-delay : ℕ
+  pub stop-delay : ℕ
+  pub x1 : ℕ
+  pub y1 : ℕ
+  pub width : ℕ
+  pub height : ℕ
+  pub codes : ℕ
+
+abbrev pub startAt : Option Cue → ℤ
+startAt none = pos 0
+startAt (some c) = c .start
+
+unfoldable pub shown : Reading → Shown
+shown r =
+    record {
+      start = startAt (cueAt (cuesOf (r .lines)) (r .cue));
+      duration = durationOf (cuesOf (r .lines)) (r .cue);
+      start-delay = delayOf (toldBy r .starts);
+      stop-delay = delayOf (toldBy r .stops);
+      x1 = toldBy r .at .x1;
+      y1 = toldBy r .at .y1;
+      width = width (toldBy r);
+      height = height (toldBy r);
+      codes = codesIn (r .unit .rows);
+    }
+
+-- the index map, the words of all bands, and the canvas
+unfoldable pub mapOf : Reading → List ℕ
+mapOf r = indexMap (width (toldBy r)) (r .unit .rows)
+
+unfoldable pub wordsOf : Reading → List ℕ
+wordsOf r = bandWords (toldBy r .bands)
+
+-- a listed unit in the colours of a palette
+unfoldable pub unitCanvas : List ℕ → ListedUnit → List ℕ
+unitCanvas palette l =
+    canvasBytes palette (toldLook (told (l .blocks))) (told (l .blocks) .at .x1) (told (l .blocks) .at .y1)
+    (map (rowPixels (width (told (l .blocks)))) (l .rows))
+
+unfoldable pub canvasOf : Reading → List ℕ
+canvasOf r = unitCanvas (paletteOf (r .lines)) (r .unit)
+
+-- scratch, map, words and canvas of these lengths are long enough (FORMAT 6.6)
+pub record LongEnough (r : Reading) (scratch pixels words canvas : ℕ) : Type 0 where
+  pub for-unit : scratchFor (r .form) ≤ scratch
+  pub for-map : width (toldBy r) * height (toldBy r) ≤ pixels
+  pub for-bands : length (wordsOf r) ≤ words
+  pub for-canvas : 4 * (width (toldBy r) * height (toldBy r)) ≤ canvas

@@ -1,0 +1,5 @@
+pub mod Painting
+pub mod Listed
+pub mod Turns
+pub mod Claim
+pub mod Call

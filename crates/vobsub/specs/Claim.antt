@@ -1,0 +1,37 @@
+-- What the call claims of whole files, in the grammar's words (FORMAT 6.4 to 6.6). Assumes nothing: these are definitions.
+use mathlib.Core.Path.{_≡_}
+use mathlib.Core.Logic.{_↔_}
+use mathlib.Core.List.{List}
+use Prim.Native.Nat.{ℕ}
+use lib.ListN.{length}
+use lib.Seq.{sets}
+use Rattle.grammar.specs.Reading.{Wanted, Reading, IsReading, shown, mapOf, wordsOf, canvasOf, LongEnough}
+use Rattle.ps.specs.Answers.{formStored}
+use Rattle.vobsub.specs.Call.{Lent}
+use Rattle.vobsub.specs.Answers.{shownGiven}
+use Rattle.vobsub.specs.declared.CanvasAnswer.{CanvasAnswer}
+use Rattle.vobsub.specs.declared.CanvasAnswer.the-variants as canvas-answer
+
+-- the answer is a canvas
+abbrev pub Gives : CanvasAnswer → Type 0
+Gives (canvas-answer.Paints s) = Unit {0}
+Gives (canvas-answer.Refused n) = ⊥
+
+-- the lent buffers are long enough for a reading
+abbrev pub Room : Reading → Lent → Type 0
+Room x b = LongEnough x (length (b .scratch)) (length (b .pixels)) (length (b .words)) (length (b .canvas))
+
+-- answer and buffers are what the reading gives, and past that each buffer is as found
+pub record Equal (x : Reading) (b : Lent) (r : CanvasAnswer) (b′ : Lent) : Type 0 where
+  pub results : r ≡ canvas-answer.Paints (shownGiven (shown x))
+  pub in-scratch : b′ .scratch ≡ sets (b .scratch) 0 (formStored (x .form))
+  pub in-pixels : b′ .pixels ≡ sets (b .pixels) 0 (mapOf x)
+  pub in-words : b′ .words ≡ sets (b .words) 0 (wordsOf x)
+  pub in-canvas : b′ .canvas ≡ sets (b .canvas) 0 (canvasOf x)
+
+-- a canvas exactly where there is a reading and room for it; no two readings; and all that is given is the reading's
+pub record Exactly (text file : List ℕ) (q : Wanted) (b : Lent) (r : CanvasAnswer) (b′ : Lent) : Type 0 where
+  pub exactly-when : Gives r ↔ ((x : Reading) × IsReading text file q x × Room x b)
+  pub no-two : (x y : Reading) → IsReading text file q x → IsReading text file q y → x ≡ y
+  pub same : (x : Reading) → IsReading text file q x → Gives r → Equal x b r b′
+  pub as-found : (Gives r → ⊥) → (b′ .pixels ≡ b .pixels) × (b′ .words ≡ b .words) × (b′ .canvas ≡ b .canvas)

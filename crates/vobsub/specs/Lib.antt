@@ -1,0 +1,4 @@
+pub mod Paint
+pub mod Call
+pub mod Answers
+pub mod Claim

@@ -1,0 +1,411 @@
+// The one call, from index text, file and cue number to a cue's canvas, with painting inside it (docs/FORMAT.md, section 6).
+use chg_colcon::LookAnswer;
+use control::ControlAnswer;
+use control::Spu;
+use idx::CueAnswer;
+use outcome::SHORT_CANVAS;
+use outcome::SHORT_PIXELS;
+use outcome::SHORT_WORDS;
+use ps::UnitAnswer;
+use spu::SpuAnswer;
+ghost use mathlib.Core.Path.{_≡_};
+ghost use mathlib.Core.Bool.{Bool, false};
+ghost use mathlib.Core.List.{List, [], _∷_};
+ghost use Prim.Native.Nat.{ℕ, _+_, _*_, _≤_, _<_, min};
+ghost use lib.ListN.{length};
+ghost use lib.Seq.{sets};
+ghost use Rattle.outcome.specs.Outcome.{ok};
+ghost use Rattle.chg_colcon.specs.Look.{spansLine};
+ghost use Rattle.control.specs.Answers.{spuOf};
+ghost use Rattle.control.specs.Chain.{controlAt};
+ghost use Rattle.grammar.specs.Control.{Block};
+ghost use Rattle.grammar.specs.Record.{told};
+ghost use Rattle.grammar.specs.Canvas.{nibbleOf, pixel, lineBytes};
+ghost use Rattle.ps.specs.Answers.{unitPart};
+ghost use Rattle.vobsub.specs.Call.{wanted, lent};
+ghost use Rattle.vobsub.specs.Answers.{UnitPainted, shownOf, FoundPainted, CuePainted};
+ghost use Rattle.vobsub.specs.Claim.{Exactly};
+ghost use Rattle.vobsub.specs.Paint.{lookIs, wordLook, sameLook, fourColours, tableLine, mapCanvas};
+
+// Four selectors and four alphas, colour 0 in the top nibble of each.
+struct Four {
+    selectors: u16,
+    alphas: u16,
+}
+
+// The nibble of `four` for colour c.
+fn nibble_of(four: u16, c: u8) -> u8
+    ensures { λ r. ⌜ r ≡ nibbleOf four c ⌝ }
+{
+    if c == 0 {
+        return (four / 4096 % 16) as u8;
+    }
+    if c == 1 {
+        return (four / 256 % 16) as u8;
+    }
+    if c == 2 {
+        return (four / 16 % 16) as u8;
+    }
+    (four % 16) as u8
+}
+
+// The four bytes of a pixel of colour c.
+// Ruled out: alpha alone left 0 where the colour is not; alpha for the selector.
+fn pixel_of(palette: [u8; 48], selectors: u16, alphas: u16, c: u8) -> [u8; 4]
+    ensures { λ r. ⌜ r ≡ pixel palette (lookIs selectors alphas) c ⌝ }
+{
+    let alpha = nibble_of(alphas, c);
+    if alpha == 0 {
+        return [0u8; 4];
+    }
+    let k = 3 * nibble_of(selectors, c) as usize;
+    [palette[k], palette[k + 1], palette[k + 2], alpha * 17]
+}
+
+// The pixels of the four colours.
+fn four_colours(palette: [u8; 48], selectors: u16, alphas: u16) -> [u8; 16]
+    ensures { λ r. ⌜ r ≡ fourColours palette (lookIs selectors alphas) ⌝ }
+{
+    let a = pixel_of(palette, selectors, alphas, 0);
+    let b = pixel_of(palette, selectors, alphas, 1);
+    let c = pixel_of(palette, selectors, alphas, 2);
+    let d = pixel_of(palette, selectors, alphas, 3);
+    [
+        a[0],
+        a[1],
+        a[2],
+        a[3],
+        b[0],
+        b[1],
+        b[2],
+        b[3],
+        c[0],
+        c[1],
+        c[2],
+        c[3],
+        d[0],
+        d[1],
+        d[2],
+        d[3],
+    ]
+}
+
+fn put4(r: u8, g: u8, b: u8, a: u8, canvas: &mut [u8], at: usize)
+    requires { ⌜ at + 4 ≤ length (now canvas) ⌝ }
+    ensures { λ _. ⌜ now (canvas .exit) ≡ sets (now (canvas .entry)) at (r ∷ g ∷ b ∷ a ∷ []) ⌝ }
+{
+    canvas[at] = r;
+    canvas[at + 1] = g;
+    canvas[at + 2] = b;
+    canvas[at + 3] = a;
+}
+
+fn at_most_3(c: u8) -> usize
+    ensures { λ r. ⌜ r ≡ min c 3 ⌝ }
+{
+    if c < 3 {
+        return c as usize;
+    }
+    3
+}
+
+// A line from its four colours and its pixels' colour numbers alone.
+fn paint_plain(colours: [u8; 16], row: &[u8], canvas: &mut [u8], at: usize)
+    requires { ⌜ at + 4 * length (now row) ≤ length (now canvas) ⌝ }
+    ensures { λ _. ⌜ now (canvas .exit) ≡ sets (now (canvas .entry)) at (tableLine colours (now (row .entry))) ⌝ }
+{
+    let mut i = 0;
+    let mut to = at;
+    while i < row.len() {
+        let k = 4 * at_most_3(row[i]);
+        put4(
+            colours[k],
+            colours[k + 1],
+            colours[k + 2],
+            colours[k + 3],
+            canvas,
+            to,
+        );
+        i += 1;
+        to += 4;
+    }
+}
+
+// What bands give at a place, or the unit's own selectors and alphas.
+fn look_at(words: &[u16], selectors: u16, alphas: u16, x: u16, y: u16) -> Four
+    ensures { λ r. ⌜ sameLook r (wordLook (now (words .entry)) (lookIs selectors alphas) x y) ⌝ }
+{
+    match chg_colcon::chg_colcon_lookup(words, x, y) {
+        LookAnswer::Found {
+            selectors: s,
+            alphas: a,
+        } => Four {
+            selectors: s,
+            alphas: a,
+        },
+        LookAnswer::Nothing => Four { selectors, alphas },
+    }
+}
+
+// A line under a band, place by place.
+fn paint_under(
+    palette: [u8; 48],
+    selectors: u16,
+    alphas: u16,
+    words: &[u16],
+    x: u16,
+    y: u16,
+    row: &[u8],
+    canvas: &mut [u8],
+    at: usize,
+)
+    requires { ⌜ (at + 4 * length (now row) ≤ length (now canvas)) × (x + length (now row) ≤ 65536) ⌝ }
+    ensures { λ _. ⌜ now (canvas .exit) ≡ sets (now (canvas .entry)) at (lineBytes palette (wordLook (now (words .entry)) (lookIs selectors alphas)) x y (now (row .entry))) ⌝ }
+{
+    let mut i: usize = 0;
+    let mut to = at;
+    while i < row.len() {
+        let column = x + i as u16;
+        let look = look_at(words, selectors, alphas, column, y);
+        let p = pixel_of(palette, look.selectors, look.alphas, row[i]);
+        put4(p[0], p[1], p[2], p[3], canvas, to);
+        i += 1;
+        to += 4;
+    }
+}
+
+// A line of the display, from column x on. `colours` are the unit's own four.
+// Ruled out: a band looked for on a line that none spans; a line under a band painted in the unit's own colours.
+fn paint_line(
+    palette: [u8; 48],
+    colours: [u8; 16],
+    selectors: u16,
+    alphas: u16,
+    words: &[u16],
+    x: u16,
+    y: u16,
+    row: &[u8],
+    canvas: &mut [u8],
+    at: usize,
+)
+    requires { ⌜ (at + 4 * length (now row) ≤ length (now canvas)) × (x + length (now row) ≤ 65536) × (colours ≡ fourColours palette (lookIs selectors alphas)) ⌝ }
+    ensures { λ _. ⌜ now (canvas .exit) ≡ sets (now (canvas .entry)) at (lineBytes palette (wordLook (now (words .entry)) (lookIs selectors alphas)) x y (now (row .entry))) ⌝ }
+{
+    if chg_colcon::spans_line(words, y) {
+        paint_under(palette, selectors, alphas, words, x, y, row, canvas, at);
+        return;
+    }
+    paint_plain(colours, row, canvas, at);
+}
+
+// The lines of a picture of that width and height whose first pixel is at column x of line y of the display.
+fn paint(
+    palette: [u8; 48],
+    selectors: u16,
+    alphas: u16,
+    words: &[u16],
+    x: u16,
+    y: u16,
+    width: usize,
+    height: usize,
+    pixels: &[u8],
+    canvas: &mut [u8],
+)
+    requires { ⌜ (x + width ≤ 65536) × (y + height ≤ 65536) × (width * height ≤ length (now pixels)) × (4 * (width * height) ≤ length (now canvas)) ⌝ }
+    ensures { λ _. ⌜ now (canvas .exit) ≡ sets (now (canvas .entry)) 0 (mapCanvas palette (wordLook (now (words .entry)) (lookIs selectors alphas)) x y width height (now (pixels .entry))) ⌝ }
+{
+    let colours = four_colours(palette, selectors, alphas);
+    let mut r: usize = 0;
+    let mut from: usize = 0;
+    while r < height {
+        let line = y + r as u16;
+        let end = from + width;
+        paint_line(
+            palette,
+            colours,
+            selectors,
+            alphas,
+            words,
+            x,
+            line,
+            &pixels[from..end],
+            canvas,
+            4 * from,
+        );
+        from = end;
+        r += 1;
+    }
+}
+
+// The rest of a unit whose control blocks tell `spu`: its record, map, bands and canvas.
+fn paint_told(
+    unit: &[u8],
+    spu: Spu,
+    palette: [u8; 48],
+    pixels: &mut [u8],
+    words: &mut [u16],
+    canvas: &mut [u8],
+) -> SpuAnswer
+    requires { ⌜ ((bs : List Block) × (controlAt (now unit) ≡ ok bs) × (spu ≡ spuOf (told bs) 0)) ⌝ }
+    ensures { λ r. ⌜ UnitPainted (now (unit .entry)) palette (now (pixels .entry)) (now (words .entry)) (now (canvas .entry)) r (now (pixels .exit)) (now (words .exit)) (now (canvas .exit)) ⌝ }
+{
+    let width = spu.x2 as usize + 1 - spu.x1 as usize;
+    let height = spu.y2 as usize + 1 - spu.y1 as usize;
+    let area = width * height;
+    if pixels.len() < area {
+        return SpuAnswer::Refused(SHORT_PIXELS);
+    }
+    if words.len() < spu.band_words {
+        return SpuAnswer::Refused(SHORT_WORDS);
+    }
+    if canvas.len() < 4 * area {
+        return SpuAnswer::Refused(SHORT_CANVAS);
+    }
+    match spu::decode_told(unit, spu, pixels, words) {
+        SpuAnswer::Shows(s) => {
+            paint(
+                palette,
+                spu.palette_sel,
+                spu.alpha,
+                &words[..spu.band_words],
+                spu.x1,
+                spu.y1,
+                width,
+                height,
+                &pixels[..],
+                canvas,
+            );
+            SpuAnswer::Shows(s)
+        }
+        SpuAnswer::Refused(number) => SpuAnswer::Refused(number),
+    }
+}
+
+// A unit's record, with its map, bands and canvas in the front of the lent buffers, which are as found on a refusal.
+// Ruled out: a canvas in the map's place; a canvas of rows that are refused.
+fn paint_unit(
+    unit: &[u8],
+    palette: [u8; 48],
+    pixels: &mut [u8],
+    words: &mut [u16],
+    canvas: &mut [u8],
+) -> SpuAnswer
+    ensures { λ r. ⌜ UnitPainted (now (unit .entry)) palette (now (pixels .entry)) (now (words .entry)) (now (canvas .entry)) r (now (pixels .exit)) (now (words .exit)) (now (canvas .exit)) ⌝ }
+{
+    match control::parse_control(unit) {
+        ControlAnswer::Tells(spu) => paint_told(unit, spu, palette, pixels, words, canvas),
+        ControlAnswer::Refused(number) => SpuAnswer::Refused(number),
+    }
+}
+
+// What is shown of a cue.
+pub struct Shown {
+    // Microseconds.
+    pub start: i64,
+    // Whether another cue follows, and the microseconds up to it; 0 where none does.
+    pub has_duration: bool,
+    pub duration: u64,
+    // The delays of the unit's first start and last stop, in its own ticks.
+    pub start_delay: u16,
+    pub stop_delay: u16,
+    // The place of the first pixel on the display.
+    pub x1: u16,
+    pub y1: u16,
+    pub width: usize,
+    pub height: usize,
+    // How many run codes were read.
+    pub codes: usize,
+}
+
+// What a cue gives.
+pub enum CanvasAnswer {
+    // It is painted.
+    Paints(Shown),
+    // The number of the refusal.
+    Refused(u8),
+}
+
+// A cue's times with the record of its unit.
+// Ruled out: x1 and y1 in each other's place; the delay of the stop for that of the start.
+fn shown_of(c: CueAnswer, s: Spu) -> Shown
+    requires { ⌜ (s .x1 ≤ s .x2) × (s .y1 ≤ s .y2) ⌝ }
+    ensures { λ r. ⌜ r ≡ shownOf c s ⌝ }
+{
+    let width = s.x2 as usize + 1 - s.x1 as usize;
+    let height = s.y2 as usize + 1 - s.y1 as usize;
+    Shown {
+        start: c.start,
+        has_duration: c.has_duration,
+        duration: c.duration,
+        start_delay: s.start_delay_raw,
+        stop_delay: s.stop_delay_raw,
+        x1: s.x1,
+        y1: s.y1,
+        width,
+        height,
+        codes: s.codes,
+    }
+}
+
+// The unit that was found for the cue c, painted.
+fn paint_found<'a>(
+    file: &'a [u8],
+    scratch: &'a [u8],
+    unit: UnitAnswer,
+    c: CueAnswer,
+    pixels: &mut [u8],
+    words: &mut [u16],
+    canvas: &mut [u8],
+) -> CanvasAnswer
+    ensures { λ r. ⌜ FoundPainted (unitPart (now (file .entry)) (now (scratch .entry)) (c .position) unit) c (now (pixels .entry)) (now (words .entry)) (now (canvas .entry)) r (now (pixels .exit)) (now (words .exit)) (now (canvas .exit)) ⌝ }
+{
+    let bytes = ps::unit_part(file, scratch, c.position as usize, unit);
+    let palette = c.palette;
+    match paint_unit(bytes, palette, pixels, words, canvas) {
+        SpuAnswer::Shows(s) => CanvasAnswer::Paints(shown_of(c, s)),
+        SpuAnswer::Refused(number) => CanvasAnswer::Refused(number),
+    }
+}
+
+// The cue with that number, from index text and file: what is shown of it, with its canvas in the front of `canvas`, its index map in the
+// front of `pixels`, its bands in the front of `words`, and its unit in the front of `scratch` where packets hold it. A refusal leaves all
+// as found, but for a unit that was already joined in scratch.
+// Ruled out: a canvas of another cue's unit; a refusal where these files have a reading for the cue and the buffers are long enough.
+pub fn decode_cue(
+    text: &[u8],
+    file: &[u8],
+    cue: usize,
+    scratch: &mut [u8],
+    pixels: &mut [u8],
+    words: &mut [u16],
+    canvas: &mut [u8],
+) -> CanvasAnswer
+    ensures { λ r. ⌜ CuePainted (now (text .entry)) (now (file .entry)) (wanted cue) (lent (now (scratch .entry)) (now (pixels .entry)) (now (words .entry)) (now (canvas .entry))) r (lent (now (scratch .exit)) (now (pixels .exit)) (now (words .exit)) (now (canvas .exit)))
+        × Exactly (now (text .entry)) (now (file .entry)) (wanted cue) (lent (now (scratch .entry)) (now (pixels .entry)) (now (words .entry)) (now (canvas .entry))) r (lent (now (scratch .exit)) (now (pixels .exit)) (now (words .exit)) (now (canvas .exit))) ⌝ }
+{
+    let c = idx::pick_cue(text, cue);
+    if c.refused != 0 {
+        return CanvasAnswer::Refused(c.refused);
+    }
+    match ps::extract_spu(file, c.position as usize, scratch) {
+        UnitAnswer::Bare(n) => paint_found(
+            file,
+            &scratch[..],
+            UnitAnswer::Bare(n),
+            c,
+            pixels,
+            words,
+            canvas,
+        ),
+        UnitAnswer::Joined(n) => paint_found(
+            file,
+            &scratch[..],
+            UnitAnswer::Joined(n),
+            c,
+            pixels,
+            words,
+            canvas,
+        ),
+        UnitAnswer::Refused(number) => CanvasAnswer::Refused(number),
+    }
+}
