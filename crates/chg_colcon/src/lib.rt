@@ -2,8 +2,9 @@
 // They are read from the bytes after a colour change's size word and stored as words, 3 + 3n for a band of n entries.
 use outcome::NO_BAND_LIST;
 use outcome::SHORT_WORDS;
+use outcome::lesser;
 ghost use mathlib.Core.Path.{_≡_};
-ghost use Prim.Native.Nat.{ℕ, _≤_, _<_, _-_, _+_, _*_, _^_, min};
+ghost use Prim.Native.Nat.{ℕ, _≤_, _<_, _-_, _+_, _*_, _^_};
 ghost use lib.ListN.{length, getD, drop, set};
 ghost use lib.Seq.{sets};
 ghost use Rattle.chg_colcon.specs.Bands.{wordOf, header, headOf, entryOf, bandsOf, entriesOf};
@@ -253,12 +254,6 @@ pub enum LookAnswer {
     Nothing,
 }
 
-fn fewer(a: usize, b: usize) -> usize
-    ensures { λ r. ⌜ r ≡ min a b ⌝ }
-{
-    if a < b { a } else { b }
-}
-
 // An entry that starts at the column or left of it, or what was found before it.
 fn pick_entry(x: u16, column: u16, selectors: u16, alphas: u16, before: LookAnswer) -> LookAnswer
     ensures { λ r. ⌜ told r ≡ pickEntry x column selectors alphas (told before) ⌝ }
@@ -312,7 +307,7 @@ pub fn chg_colcon_lookup(words: &[u16], x: u16, y: u16) -> LookAnswer
     let mut at: usize = 0;
     while 3 <= words.len() - at {
         let from = at + 3;
-        let n = fewer(words[at + 2] as usize, (words.len() - from) / 3);
+        let n = lesser(words[at + 2] as usize, (words.len() - from) / 3);
         look = look_band(words, from, n, x, y, look);
         at = from + 3 * n;
     }

@@ -1,4 +1,7 @@
 // The numbers that refusals carry, one name each (docs/FORMAT.md, table of refusals). A layer adds its own here.
+// And the one function that several layers call.
+ghost use mathlib.Core.Path.{_≡_};
+ghost use Prim.Native.Nat.{min};
 
 // A byte of the index text is 80 or above.
 pub const HIGH_BYTE: u8 = 1;
@@ -89,3 +92,10 @@ pub const LONG_UNIT: u8 = 30;
 
 // The lent output is shorter than the unit.
 pub const SHORT_OUTPUT: u8 = 31;
+
+// The lesser of two numbers.
+pub fn lesser(a: usize, b: usize) -> usize
+    ensures { λ r. ⌜ r ≡ min a b ⌝ }
+{
+    if a < b { a } else { b }
+}

@@ -1,8 +1,8 @@
 // Reads fields into a map whose bytes are all 238 and writes a line for each: its name, the number of codes or the refusal,
 // and the map after it in runs of equal bytes, `NxC`, with `.` for a byte that is as found.
+use codes::CodeAnswer;
+use codes::Cursor;
 use libc::STDOUT_FILENO;
-use rle::CodeAnswer;
-use rle::Cursor;
 use rle::FieldAnswer;
 
 const FOUND: u8 = 238;
@@ -79,7 +79,7 @@ fn row(name: &[u8], field: &[u8], width: usize, height: usize, start_row: usize,
 // The code at a place of a field.
 fn code(name: &[u8], field: &[u8], pos: usize) {
     io::write_all(STDOUT_FILENO, name);
-    match rle::read_code(field, Cursor { pos }) {
+    match codes::read_code(field, Cursor { pos }) {
         CodeAnswer::Got { size, value, next } => {
             io::write_all(STDOUT_FILENO, b": nibbles ");
             number(size);

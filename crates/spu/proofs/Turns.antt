@@ -24,7 +24,7 @@ use Rattle.control.specs.declared.Spu.{Spu}
 use Rattle.control.specs.declared.ControlAnswer.the-variants as control-answer
 use Rattle.control.proofs.Fill.{control-is}
 use Rattle.rle.specs.Answers.{fieldCounts, fieldAnswer}
-use Rattle.rle.specs.Fields.{fieldsAt, FieldsDecoded}
+use Rattle.fields.specs.Fields.{fieldsAt, FieldsDecoded}
 use Rattle.rle.specs.declared.Counts.{Counts}
 use Rattle.rle.specs.declared.FieldAnswer.{FieldAnswer}
 use Rattle.rle.specs.declared.FieldAnswer.the-variants as field-answer

@@ -1,11 +1,11 @@
 // A whole unit: its control blocks, the rows of its two fields in the index map, and its bands as words (docs/FORMAT.md, sections 3 to 5).
 use control::ControlAnswer;
 use control::Spu;
+use fields::Span;
 use outcome::NO_TOP_FIELD;
 use outcome::SHORT_PIXELS;
 use outcome::SHORT_WORDS;
 use rle::FieldAnswer;
-use rle::Span;
 ghost use mathlib.Core.Path.{_≡_};
 ghost use Prim.Native.Nat.{_≤_, _<_, _-_, _+_, _*_};
 ghost use mathlib.Core.List.{List};
@@ -109,7 +109,7 @@ pub fn measure_rows(unit: &[u8], spu: Spu) -> FieldAnswer
     if l.end <= l.top {
         return FieldAnswer::Refused(NO_TOP_FIELD);
     }
-    rle::measure_fields(
+    fields::measure_fields(
         unit,
         Span {
             from: l.top,
@@ -135,7 +135,7 @@ pub fn decode_rows(unit: &[u8], spu: Spu, pixels: &mut [u8]) -> FieldAnswer
     if l.end <= l.top {
         return FieldAnswer::Refused(NO_TOP_FIELD);
     }
-    rle::decode_rle_fields(
+    fields::decode_rle_fields(
         unit,
         Span {
             from: l.top,

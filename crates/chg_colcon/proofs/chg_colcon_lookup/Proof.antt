@@ -33,43 +33,43 @@ sub-loop c = c .loop .inv .inside
 add-from : tie.Need-add-from Inv-loop μ-loop
 add-from c = omega (arith, c .before .loop .inv .inside, c .loop-test .taken, c .before .before .before .good .0)
 
-add-fewer : tie.Need-add-fewer Inv-loop μ-loop
-add-fewer c = omega (arith, c .before .loop .inv .inside, c .loop-test .taken, c .before .before .before .good .0)
+add-lesser : tie.Need-add-lesser Inv-loop μ-loop
+add-lesser c = omega (arith, c .before .loop .inv .inside, c .loop-test .taken, c .before .before .before .good .0)
 
-mul-fewer : tie.Need-mul-fewer Inv-loop μ-loop
-mul-fewer c = omega (arith, c .before .loop .inv .inside, c .loop-test .taken, c .before .before .before .good .0)
+mul-lesser : tie.Need-mul-lesser Inv-loop μ-loop
+mul-lesser c = omega (arith, c .before .loop .inv .inside, c .loop-test .taken, c .before .before .before .good .0)
 
-shared-slice-read-fewer : tie.Need-shared-slice-read-fewer Inv-loop μ-loop
-shared-slice-read-fewer c = omega (arith, c .before .before .loop .inv .inside, c .before .loop-test .taken, c .before .before .before .before .good .0)
+shared-slice-read-lesser : tie.Need-shared-slice-read-lesser Inv-loop μ-loop
+shared-slice-read-lesser c = omega (arith, c .before .before .loop .inv .inside, c .before .loop-test .taken, c .before .before .before .before .good .0)
 
-cast-fewer : tie.Need-cast-fewer Inv-loop μ-loop
-cast-fewer c = omega (arith, c .shared-slice-known2 .given (c .before .before .loop .at + 2))
+cast-lesser : tie.Need-cast-lesser Inv-loop μ-loop
+cast-lesser c = omega (arith, c .shared-slice-known2 .given (c .before .before .loop .at + 2))
 
-sub-fewer : tie.Need-sub-fewer Inv-loop μ-loop
-sub-fewer c = omega (arith, c .before .before .loop .inv .inside, c .before .loop-test .taken, c .before .before .before .before .good .0)
+sub-lesser : tie.Need-sub-lesser Inv-loop μ-loop
+sub-lesser c = omega (arith, c .before .before .loop .inv .inside, c .before .loop-test .taken, c .before .before .before .before .good .0)
 
-fewer-requires : tie.Need-fewer-requires Inv-loop μ-loop
-fewer-requires c κs = search needs
+lesser-requires : tie.Need-lesser-requires Inv-loop μ-loop
+lesser-requires c κs = search needs
 
 look-band-requires : tie.Need-look-band-requires Inv-loop μ-loop
-look-band-requires c κs = omega (arith, c .before .before .before .loop .inv .inside, c .before .before .loop-test .taken, c .before .before .before .before .before .good .0, c .fewer .ensures)
+look-band-requires c κs = omega (arith, c .before .before .before .loop .inv .inside, c .before .before .loop-test .taken, c .before .before .before .before .before .good .0, c .lesser .ensures)
 
 mul-at : tie.Need-mul-at Inv-loop μ-loop
-mul-at c = omega (arith, c .before .before .before .before .loop .inv .inside, c .before .before .before .loop-test .taken, c .before .before .before .before .before .before .good .0, c .before .fewer .ensures)
+mul-at c = omega (arith, c .before .before .before .before .loop .inv .inside, c .before .before .before .loop-test .taken, c .before .before .before .before .before .before .good .0, c .before .lesser .ensures)
 
 add-at : tie.Need-add-at Inv-loop μ-loop
-add-at c = omega (arith, c .before .before .before .before .loop .inv .inside, c .before .before .before .loop-test .taken, c .before .before .before .before .before .before .good .0, c .before .fewer .ensures)
+add-at c = omega (arith, c .before .before .before .before .loop .inv .inside, c .before .before .before .loop-test .taken, c .before .before .before .before .before .before .good .0, c .before .lesser .ensures)
 
 loop-less : tie.Need-loop-less Inv-loop μ-loop
-loop-less c = omega (arith, c .before .before .before .before .loop .inv .inside, c .before .before .before .loop-test .taken, c .before .before .before .before .before .before .good .0, c .before .fewer .ensures)
+loop-less c = omega (arith, c .before .before .before .before .loop .inv .inside, c .before .before .before .loop-test .taken, c .before .before .before .before .before .before .good .0, c .before .lesser .ensures)
 
 loop-again : tie.Need-loop-again Inv-loop μ-loop
 loop-again c =
     let i = c .before .before .before .before .loop in
     let h : i .at + 3 ≤ length (now (c .before .before .before .before .before .before .args .words)) = omega (arith, c .before .before .before .before .loop .inv .inside, c .before .before .before .loop-test .taken, c .before .before .before .before .before .before .good .0) in
     record {
-      inside = omega (arith, c .before .before .before .before .loop .inv .inside, c .before .before .before .loop-test .taken, c .before .before .before .before .before .before .good .0, c .before .fewer .ensures);
-      goes = bands-more _ _ (i .at) _ _ _ _ h (c .before .fewer .ensures) (c .look-band .ensures) ∙ i .inv .goes;
+      inside = omega (arith, c .before .before .before .before .loop .inv .inside, c .before .before .before .loop-test .taken, c .before .before .before .before .before .before .good .0, c .before .lesser .ensures);
+      goes = bands-more _ _ (i .at) _ _ _ _ h (c .before .lesser .ensures) (c .look-band .ensures) ∙ i .inv .goes;
     }
 
 returns : tie.Need-returns Inv-loop μ-loop
@@ -84,12 +84,12 @@ chg-colcon-lookup-spec =
     loop-holds
     sub-loop
     add-from
-    add-fewer
-    mul-fewer
-    shared-slice-read-fewer
-    cast-fewer
-    sub-fewer
-    fewer-requires
+    add-lesser
+    mul-lesser
+    shared-slice-read-lesser
+    cast-lesser
+    sub-lesser
+    lesser-requires
     look-band-requires
     mul-at
     add-at
