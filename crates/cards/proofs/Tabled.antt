@@ -10,7 +10,8 @@ use Rattle.grammar.specs.Pixels.{rowPixels, codesIn, indexMap}
 use Rattle.grammar.specs.Record.{untold, tellBlock, tellChain}
 use Rattle.grammar.specs.Picture.{topEnd}
 use Rattle.grammar.specs.Packets.{joined, unitOf}
-use Rattle.ps.specs.Packets.{leading, header1At, headerAt, bodyAt, keptAt, packAt, privateAt, kindAt, packetAt, packetsAt, isBare, formAt}
+use Rattle.packets.specs.Packets.{leading, header1At, headerAt, bodyAt, keptAt, packAt, privateAt, kindAt, packetAt}
+use Rattle.ps.specs.Packets.{packetsAt, isBare, formAt}
 use Rattle.codes.specs.Codes.{codeFrom, codeAt, rowAt, fieldAt}
 use Rattle.rle.specs.Field.{rowsFrom, paintField, decoded}
 use Rattle.rle.specs.Answers.{rowCounts, fieldCounts}

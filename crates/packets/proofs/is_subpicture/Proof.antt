@@ -1,7 +1,7 @@
--- `ps::is_subpicture` meets its contract: by both bounds. Assumes nothing.
+-- `packets::is_subpicture` meets its contract: by both bounds. Assumes nothing.
 use borrow.Author.Tests.{le-leb, lt-leb}
-use Rattle.ps.proofs.is_subpicture.Statement.{statement}
-use Rattle.ps.proofs.is_subpicture.Tie as tie
+use Rattle.packets.proofs.is_subpicture.Statement.{statement}
+use Rattle.packets.proofs.is_subpicture.Tie as tie
 
 returns : tie.Need-returns
 returns c = rw (lt-leb 0x20 (c .before .args .b) (c .if1 .taken))

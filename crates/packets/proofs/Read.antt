@@ -14,12 +14,12 @@ use Rattle.outcome.specs.Outcome.{Res, ok, refuse, check, mapRes, no-unit}
 use Rattle.outcome.proofs.Laws.{ok-not-refuse, and-true, check-refuse, andThen-refuse, mapRes-refuse, either, not-so}
 use Rattle.grammar.specs.Bytes.{byte}
 use Rattle.grammar.specs.Packets.{Part, Packet, lengthEnd, Keeps, IsPack, IsPrivate, IsOther, IsPacket, keptBytes, subpicture}
-use Rattle.ps.specs.Packets.{bodyAt, packet, keptAt, packAt, privateAt, kindAt, packetAt}
-use Rattle.ps.specs.Answers.{bodyRest, bodyFound, packetGiven, wholeGiven, keptGiven}
-use Rattle.ps.specs.declared.PacketAnswer.{PacketAnswer}
-use Rattle.ps.specs.declared.PacketAnswer.the-variants as packet-answer
-use Rattle.ps.proofs.Laws.{packet-sound, packet-longer, body-iff}
-use Rattle.ps.proofs.Shift.{body-after, body-refuses, body-file, byte-slice}
+use Rattle.packets.specs.Packets.{bodyAt, packet, keptAt, packAt, privateAt, kindAt, packetAt}
+use Rattle.packets.specs.Answers.{bodyRest, bodyFound, packetGiven, wholeGiven, keptGiven}
+use Rattle.packets.specs.declared.PacketAnswer.{PacketAnswer}
+use Rattle.packets.specs.declared.PacketAnswer.the-variants as packet-answer
+use Rattle.packets.proofs.Laws.{packet-sound, packet-longer, body-iff}
+use Rattle.packets.proofs.Shift.{body-after, body-refuses, body-file, byte-slice}
 
 -- ---- Packets that are refused
 

@@ -1,10 +1,10 @@
--- `ps::stuffing` meets its contract: each turn is one byte more. Assumes nothing.
+-- `packets::stuffing` meets its contract: each turn is one byte more. Assumes nothing.
 use borrow.Author.Needs.{needs}
 use native.Mathlib.Omega.{arith}
 use Prim.Native.Nat.{_-_}
-use Rattle.ps.proofs.Body.{Stuffed, stuffed-starts, stuffed-past, stuffed-other, stuffed-full, stuffed-more}
-use Rattle.ps.proofs.stuffing.Statement.{statement}
-use Rattle.ps.proofs.stuffing.Tie as tie
+use Rattle.packets.proofs.Body.{Stuffed, stuffed-starts, stuffed-past, stuffed-other, stuffed-full, stuffed-more}
+use Rattle.packets.proofs.stuffing.Statement.{statement}
+use Rattle.packets.proofs.stuffing.Tie as tie
 
 abbrev Inv-loop : tie.InvT-loop
 Inv-loop pes n₀ n = Stuffed pes n

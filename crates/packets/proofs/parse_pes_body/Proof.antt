@@ -1,10 +1,10 @@
--- `ps::parse_pes_body` meets its contract: the rest of the PES, or none of it. Assumes nothing.
+-- `packets::parse_pes_body` meets its contract: the rest of the PES, or none of it. Assumes nothing.
 use borrow.Author.Needs.{needs}
 use native.Mathlib.Omega.{arith}
 use mathlib.Core.Path.{sym, _∙_}
-use Rattle.ps.proofs.Body.{rest-at, rest-none}
-use Rattle.ps.proofs.parse_pes_body.Statement.{statement}
-use Rattle.ps.proofs.parse_pes_body.Tie as tie
+use Rattle.packets.proofs.Body.{rest-at, rest-none}
+use Rattle.packets.proofs.parse_pes_body.Statement.{statement}
+use Rattle.packets.proofs.parse_pes_body.Tie as tie
 
 body-start-requires : tie.Need-body-start-requires
 body-start-requires c κs = search needs

@@ -1,12 +1,12 @@
--- `ps::read_packet` meets its contract: by its prefix and its code. Assumes nothing.
+-- `packets::read_packet` meets its contract: by its prefix and its code. Assumes nothing.
 use borrow.Author.Needs.{needs}
 use native.Mathlib.Omega.{arith}
 use mathlib.Core.Path.{_∙_}
 use Prim.Native.Nat.{_+_}
-use Rattle.ps.proofs.Laws.{word-at}
-use Rattle.ps.proofs.Read.{packet-short, packet-unprefixed, packet-pack, packet-private, packet-ending, packet-other}
-use Rattle.ps.proofs.read_packet.Statement.{statement}
-use Rattle.ps.proofs.read_packet.Tie as tie
+use Rattle.packets.proofs.Laws.{word-at}
+use Rattle.packets.proofs.Read.{packet-short, packet-unprefixed, packet-pack, packet-private, packet-ending, packet-other}
+use Rattle.packets.proofs.read_packet.Statement.{statement}
+use Rattle.packets.proofs.read_packet.Tie as tie
 
 returns : tie.Need-returns
 returns c = packet-short (c .before .before .args .file .now) (c .before .before .args .at) (omega (arith, c .if1 .taken))

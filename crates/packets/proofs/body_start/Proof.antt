@@ -1,11 +1,11 @@
--- `ps::body_start` meets its contract: by the form of the header. Assumes nothing.
+-- `packets::body_start` meets its contract: by the form of the header. Assumes nothing.
 use borrow.Author.Needs.{needs}
 use native.Mathlib.Omega.{arith}
 use mathlib.Core.Path.{_∙_, refl}
-use Rattle.ps.proofs.Laws.{leading-le}
-use Rattle.ps.proofs.Body.{body-none, body-cut, body-past, body-at, body-older}
-use Rattle.ps.proofs.body_start.Statement.{statement}
-use Rattle.ps.proofs.body_start.Tie as tie
+use Rattle.packets.proofs.Laws.{leading-le}
+use Rattle.packets.proofs.Body.{body-none, body-cut, body-past, body-at, body-older}
+use Rattle.packets.proofs.body_start.Statement.{statement}
+use Rattle.packets.proofs.body_start.Tie as tie
 
 returns : tie.Need-returns
 returns c = body-none _ (c .if1 .taken)

@@ -13,8 +13,8 @@ use Rattle.outcome.specs.Outcome.{Res, ok, refuse, check, mapRes, no-unit}
 use Rattle.outcome.proofs.Laws.{ok-not-refuse, check-refuse, andThen-refuse, either}
 use Rattle.grammar.specs.Bytes.{byte}
 use Rattle.grammar.specs.Packets.{bufferSize, stampSize, Stuffing, Header2, Header1, IsBody}
-use Rattle.ps.specs.Packets.{leading, stampAt, header1At, headerAt, bodyAt}
-use Rattle.ps.proofs.Laws.{body-iff}
+use Rattle.packets.specs.Packets.{leading, stampAt, header1At, headerAt, bodyAt}
+use Rattle.packets.proofs.Laws.{body-iff}
 
 -- the n bytes of s from c on are those of f from a on
 pub record Alike (s : List ℕ) (c : ℕ) (f : List ℕ) (a n : ℕ) : Type 0 where

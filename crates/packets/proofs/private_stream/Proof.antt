@@ -1,12 +1,12 @@
--- `ps::private_stream` meets its contract: by what the body of its own bytes is. Assumes nothing.
+-- `packets::private_stream` meets its contract: by what the body of its own bytes is. Assumes nothing.
 use borrow.Author.Needs.{needs}
 use native.Mathlib.Omega.{arith}
 use mathlib.Core.Path.{sym, _∙_}
 use Prim.Native.Nat.{_+_}
 use Rattle.outcome.proofs.Laws.{part-slice, not-true, not-false}
-use Rattle.ps.proofs.Read.{private-cut, private-none, private-fits, private-empty, private-other, private-keeps}
-use Rattle.ps.proofs.private_stream.Statement.{statement}
-use Rattle.ps.proofs.private_stream.Tie as tie
+use Rattle.packets.proofs.Read.{private-cut, private-none, private-fits, private-empty, private-other, private-keeps}
+use Rattle.packets.proofs.private_stream.Statement.{statement}
+use Rattle.packets.proofs.private_stream.Tie as tie
 
 add-start : tie.Need-add-start
 add-start c = let h = c .before .pre .0 in let s = c .before .pre .1 in omega arith

@@ -10,10 +10,10 @@ use borrow.Author.Tests.{eq-eqb, ne-eqb, le-leb, lt-leb, lt-ltb, le-ltb}
 use Rattle.outcome.specs.Outcome.{Res, ok, refuse, no-unit}
 use Rattle.grammar.specs.Bytes.{byte}
 use Rattle.grammar.specs.Packets.{bufferSize, stampSize}
-use Rattle.ps.specs.Packets.{leading, header1At, headerAt, bodyAt}
-use Rattle.ps.specs.Answers.{bodyGiven, bodyAnswer, bodyRest, bodyFound}
-use Rattle.ps.specs.declared.BodyAnswer.the-variants as body-answer
-use Rattle.ps.proofs.Laws.{leading-yes, body-iff}
+use Rattle.packets.specs.Packets.{leading, header1At, headerAt, bodyAt}
+use Rattle.packets.specs.Answers.{bodyGiven, bodyAnswer, bodyRest, bodyFound}
+use Rattle.packets.specs.declared.BodyAnswer.the-variants as body-answer
+use Rattle.packets.proofs.Laws.{leading-yes, body-iff}
 
 -- past the end there is no stuffing
 byte-past : (s : List ℕ) (i : ℕ) → length s ≤ i → byte s i ≡ 0

@@ -1,9 +1,9 @@
--- `ps::stamp_size` meets its contract: by the top nibble. Assumes nothing.
+-- `packets::stamp_size` meets its contract: by the top nibble. Assumes nothing.
 use native.Mathlib.Omega.{arith}
 use Prim.Native.Nat.{_/_}
 use borrow.Author.Tests.{eq-eqb, ne-eqb}
-use Rattle.ps.proofs.stamp_size.Statement.{statement}
-use Rattle.ps.proofs.stamp_size.Tie as tie
+use Rattle.packets.proofs.stamp_size.Statement.{statement}
+use Rattle.packets.proofs.stamp_size.Tie as tie
 
 returns : tie.Need-returns
 returns c = (rw (eq-eqb (c .before .args .b / 16) 2 (c .if1 .taken)), omega arith)

@@ -1,9 +1,9 @@
--- `ps::pack` meets its contract: by the form of the header. Assumes nothing.
+-- `packets::pack` meets its contract: by the form of the header. Assumes nothing.
 use native.Mathlib.Omega.{arith}
 use mathlib.Core.Path.{_∙_, refl}
-use Rattle.ps.proofs.Read.{pack-cut, pack-newer, pack-older, pack-none}
-use Rattle.ps.proofs.pack.Statement.{statement}
-use Rattle.ps.proofs.pack.Tie as tie
+use Rattle.packets.proofs.Read.{pack-cut, pack-newer, pack-older, pack-none}
+use Rattle.packets.proofs.pack.Statement.{statement}
+use Rattle.packets.proofs.pack.Tie as tie
 
 add-if1 : tie.Need-add-if1
 add-if1 c = omega (arith, c .before .pre)

@@ -1,9 +1,9 @@
--- `ps::older_body` meets its contract: a byte before each test. Assumes nothing.
+-- `packets::older_body` meets its contract: a byte before each test. Assumes nothing.
 use borrow.Author.Needs.{needs}
 use native.Mathlib.Omega.{arith}
-use Rattle.ps.proofs.Body.{older-none, older-cut, older-past, older-at, ap-plus}
-use Rattle.ps.proofs.older_body.Statement.{statement}
-use Rattle.ps.proofs.older_body.Tie as tie
+use Rattle.packets.proofs.Body.{older-none, older-cut, older-past, older-at, ap-plus}
+use Rattle.packets.proofs.older_body.Statement.{statement}
+use Rattle.packets.proofs.older_body.Tie as tie
 
 returns : tie.Need-returns
 returns c = older-none _ _ (c .if1 .taken)

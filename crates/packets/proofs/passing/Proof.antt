@@ -1,8 +1,8 @@
--- `ps::passing` meets its contract: by whether the packet is whole. Assumes nothing.
+-- `packets::passing` meets its contract: by whether the packet is whole. Assumes nothing.
 use native.Mathlib.Omega.{arith}
-use Rattle.ps.proofs.Read.{whole-yes, whole-no}
-use Rattle.ps.proofs.passing.Statement.{statement}
-use Rattle.ps.proofs.passing.Tie as tie
+use Rattle.packets.proofs.Read.{whole-yes, whole-no}
+use Rattle.packets.proofs.passing.Statement.{statement}
+use Rattle.packets.proofs.passing.Tie as tie
 
 sub-if1 : tie.Need-sub-if1
 sub-if1 c = c .pre

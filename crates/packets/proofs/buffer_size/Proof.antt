@@ -1,9 +1,9 @@
--- `ps::buffer_size` meets its contract: by the top bits. Assumes nothing.
+-- `packets::buffer_size` meets its contract: by the top bits. Assumes nothing.
 use native.Mathlib.Omega.{arith}
 use Prim.Native.Nat.{_/_}
 use borrow.Author.Tests.{eq-eqb, ne-eqb}
-use Rattle.ps.proofs.buffer_size.Statement.{statement}
-use Rattle.ps.proofs.buffer_size.Tie as tie
+use Rattle.packets.proofs.buffer_size.Statement.{statement}
+use Rattle.packets.proofs.buffer_size.Tie as tie
 
 returns : tie.Need-returns
 returns c = (rw (eq-eqb (c .before .args .b / 64) 1 (c .if1 .taken)), omega arith)
