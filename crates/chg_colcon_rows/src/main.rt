@@ -3,9 +3,9 @@
 // A line of standard input is a row: `store`, `look` or `across`, its name, the place and the number of words or the column and the line,
 // and the payload.
 use chg_colcon::BandAnswer;
-use chg_colcon::LookAnswer;
 use libc::STDIN_FILENO;
 use libc::STDOUT_FILENO;
+use look::LookAnswer;
 
 const FOUND: u16 = 0xEEEE;
 
@@ -102,7 +102,7 @@ fn across(name: &[u8], column: u8) {
 
 // What words give at column x of line y.
 fn look(words: &[u16], x: u16, y: u16) {
-    match chg_colcon::chg_colcon_lookup(words, x, y) {
+    match look::chg_colcon_lookup(words, x, y) {
         LookAnswer::Found { selectors, alphas } => {
             io::write_all(STDOUT_FILENO, b": selectors");
             word(selectors);

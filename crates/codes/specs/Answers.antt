@@ -2,7 +2,6 @@
 use Prim.Native.Nat.{_+_}
 use Rattle.outcome.specs.Outcome.{Res, ok, refuse}
 use Rattle.grammar.specs.Rows.{Code}
-use Rattle.codes.specs.declared.Cursor.{Cursor}
 use Rattle.codes.specs.declared.CodeAnswer.{CodeAnswer}
 use Rattle.codes.specs.declared.CodeAnswer.the-variants as code-answer
 

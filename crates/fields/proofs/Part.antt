@@ -17,7 +17,6 @@ use Rattle.grammar.specs.Pixels.{rowPixels}
 use Rattle.codes.specs.Codes.{made, codeFrom, codeAt, rowAt, fieldAt}
 use Rattle.rle.specs.Field.{paintField}
 use Rattle.rle.specs.Answers.{rowCounts, fieldCounts}
-use Rattle.rle.specs.declared.FieldAnswer.the-variants as field-answer
 use Rattle.codes.proofs.Laws.{code-sound, paints-pos, row-step, row-none}
 
 -- the same code, k half bytes on

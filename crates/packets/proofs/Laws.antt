@@ -6,11 +6,11 @@ use mathlib.Core.Path.{_≡_, refl, sym, ap, _∙_, subst}
 use mathlib.Core.Bool.{Bool, true, false, cond, _&&_}
 use mathlib.Core.Logic.{_⊎_, inl, inr, ⊎-elim, _↔_}
 use mathlib.Core.Option.{Option, some, none}
-use mathlib.Core.List.{List, [], _∷_, _++_}
+use mathlib.Core.List.{List}
 use lib.ListN.{length}
 use lib.Dec.{leb, eqb, ltb}
 use borrow.Author.Tests.{leb-true, eqb-true, eqb-false, ltb-true, le-leb, eq-eqb, ne-eqb, lt-ltb}
-use Rattle.outcome.specs.Outcome.{Res, ok, refuse, check, mapRes, no-unit}
+use Rattle.outcome.specs.Outcome.{Res, ok, refuse, check, no-unit}
 use Rattle.outcome.proofs.Laws.{ok-not-refuse, ok-injective, either, not-so, clash, and-true, check-ok, andThen-ok, mapRes-ok, le-or-lt}
 use Rattle.grammar.specs.Bytes.{byte, word}
 use Rattle.grammar.specs.Packets.{Part, Packet, Stuffing, Header2, Header1, IsBody, Keeps, lengthEnd, IsPack, IsPrivate, IsOther, IsPacket}

@@ -1,8 +1,9 @@
 // The packet at a place of a program stream, and the body of a PES packet (docs/FORMAT.md, 2.2 to 2.7).
 use outcome::NO_UNIT;
+use outcome::word_of;
 ghost use mathlib.Core.Path.{_≡_};
 ghost use mathlib.Core.Option.{none};
-ghost use Prim.Native.Nat.{_≤_, _<_, _+_, _-_, _*_};
+ghost use Prim.Native.Nat.{_≤_, _<_, _+_, _-_};
 ghost use lib.ListN.{length};
 ghost use Rattle.outcome.specs.Outcome.{ok};
 ghost use Rattle.grammar.specs.Bytes.{word};
@@ -125,13 +126,6 @@ pub enum PacketAnswer {
     Passes(usize),
     // The number of the refusal.
     Refused(u8),
-}
-
-// The number that two bytes make, the high one first.
-pub fn word_of(a: u8, b: u8) -> usize
-    ensures { λ r. ⌜ r ≡ a * 256 + b ⌝ }
-{
-    a as usize * 256 + b as usize
 }
 
 // Whether an id is a subpicture stream's.

@@ -1,5 +1,5 @@
 -- The packets and the unit that are found are the ones that the grammar lists, so that no place has two units. Assumes nothing.
-use Prim.Native.Nat.{ℕ, _+_, _-_, _≤_, _<_}
+use Prim.Native.Nat.{ℕ, _+_, _-_, _<_}
 use native.Mathlib.Omega.{arith}
 use mathlib.Core.Path.{_≡_, refl, sym, _∙_, subst}
 use mathlib.Core.Bool.{Bool, true, false, cond, _&&_}
@@ -8,7 +8,7 @@ use mathlib.Core.List.{List, [], _∷_, _++_}
 use lib.ListN.{length}
 use lib.Dec.{leb, ltb}
 use borrow.Author.Tests.{leb-true, ltb-true, le-leb, lt-ltb}
-use Rattle.outcome.specs.Outcome.{Res, ok, mapRes, past-file}
+use Rattle.outcome.specs.Outcome.{ok, mapRes, past-file}
 use Rattle.outcome.specs.Lists.{Listed}
 use Rattle.outcome.proofs.Laws.{ok-injective, either, not-so, clash, and-true, check-ok, mapRes-ok}
 use Rattle.outcome.proofs.Lists.{list-iff}

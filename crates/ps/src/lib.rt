@@ -1,15 +1,14 @@
 // The unit at a cue's position, bare or joined from the packets of a program stream (docs/FORMAT.md, section 2).
-use outcome::NO_UNIT;
 use outcome::PAST_FILE;
 use outcome::SHORT_SCRATCH;
 use outcome::lesser;
+use outcome::word_of;
 use packets::PacketAnswer;
 use packets::read_packet;
-use packets::word_of;
 ghost use mathlib.Core.Path.{_≡_};
 ghost use mathlib.Core.Bool.{cond};
 ghost use mathlib.Core.List.{List, []};
-ghost use Prim.Native.Nat.{_≤_, _<_, _+_, _-_, _*_};
+ghost use Prim.Native.Nat.{_≤_, _<_, _+_, _-_};
 ghost use lib.Dec.{ltb};
 ghost use lib.ListN.{length, take, drop};
 ghost use lib.Seq.{sets, slice};

@@ -5,6 +5,7 @@ use fields::Span;
 use outcome::NO_TOP_FIELD;
 use outcome::SHORT_PIXELS;
 use outcome::SHORT_WORDS;
+use outcome::word_of;
 use rle::FieldAnswer;
 ghost use mathlib.Core.Path.{_≡_};
 ghost use Prim.Native.Nat.{_≤_, _<_, _-_, _+_, _*_};
@@ -16,7 +17,7 @@ ghost use Rattle.grammar.specs.Picture.{topEnd};
 ghost use Rattle.spu.specs.Unit.{offsetsOf};
 ghost use Rattle.outcome.specs.Outcome.{ok, IsOk};
 ghost use lib.Seq.{sets};
-ghost use Rattle.control.specs.Fill.{unitWords};
+ghost use Rattle.bands.specs.Fill.{unitWords};
 ghost use Rattle.control.specs.Chain.{controlAt};
 ghost use Rattle.control.specs.Answers.{spuOf};
 ghost use Rattle.rle.specs.Answers.{fieldAnswer};
@@ -29,12 +30,6 @@ pub enum SpuAnswer {
     Shows(Spu),
     // The number of the refusal.
     Refused(u8),
-}
-
-fn word_of(a: u8, b: u8) -> usize
-    ensures { λ r. ⌜ r ≡ a * 256 + b ⌝ }
-{
-    a as usize * 256 + b as usize
 }
 
 // The byte before which the top field ends.
@@ -181,7 +176,7 @@ fn store_bands(unit: &[u8], count: usize, words: &mut [u16])
     ensures { λ _. ⌜ now (words .exit) ≡ sets (now (words .entry)) 0 (unitWords (now (unit .entry))) ⌝ }
 {
     if 0 < count {
-        control::fill_bands(unit, words);
+        bands::fill_bands(unit, words);
     }
 }
 

@@ -1,5 +1,5 @@
 -- Laws of parts and of written bytes: one for each turn of a loop, over plain variables. Assumes nothing.
-use Prim.Native.Nat.{ℕ, zero, suc, _+_, _-_, _*_, _≤_, _<_, min}
+use Prim.Native.Nat.{ℕ, suc, _+_, _-_, _*_, _≤_, _<_, min}
 use native.Mathlib.Numerals.{add-one}
 use native.Mathlib.Omega.{arith}
 use mathlib.Core.Path.{_≡_, refl, sym, ap, _∙_}
@@ -33,9 +33,6 @@ module _ (m : ℕ) (s : List ℕ) (from n : ℕ) (h : from ≤ length s) (e : n 
 
   pub before-inside : from + n ≤ length s
   before-inside = omega (arith, before-is, front-le (unlike m) (drop from s), length-drop from s)
-
-  pub before-le : n ≤ length (take (length s - from) (drop from s))
-  before-le = rw e (front-le (unlike m) (take (length s - from) (drop from s)))
 
   behind-is : (to : ℕ) → to ≡ min (from + n + 1) (length s) → drop to s ≡ drop (from + n + 1) s
   behind-is to f =
@@ -118,9 +115,6 @@ pub record Storing (s out₀ : List ℕ) (i n : ℕ) (out : List ℕ) : Type 0 w
   pub size : length out ≡ length out₀
   pub count : n + length (bytesOf (drop i s)) ≡ length (bytesOf s)
   pub held : sets out n (bytesOf (drop i s)) ≡ sets out₀ 0 (bytesOf s)
-
-pub storing-starts : (s out : List ℕ) → Storing s out 0 0 out
-storing-starts s out = record { upto = omega arith; few = omega arith; size = refl; count = omega arith; held = refl }
 
 pub storing-goes : (s out₀ : List ℕ) (i n : ℕ) (out : List ℕ) → Storing s out₀ i n out → (r : Item) → Written s i r
     → (out′ : List ℕ) → out′ ≡ set out n (r .byte) → Storing s out₀ (r .next) (n + 1) out′

@@ -1,7 +1,7 @@
 -- `table::bytes` meets its contract: each turn stores one byte. Assumes nothing.
 use Prim.Native.Nat.{_-_}
 use lib.ListN.{length}
-use Rattle.table.proofs.Laws.{Storing, storing-starts, storing-goes, storing-ends}
+use Rattle.table.proofs.Laws.{Storing, storing-goes, storing-ends}
 use borrow.Author.Needs.{needs}
 use native.Mathlib.Omega.{arith}
 use Rattle.table.proofs.bytes.Statement.{statement}

@@ -1,9 +1,9 @@
 -- `table::part` meets its contract: each turn passes one mark. Assumes nothing.
 use Prim.Native.Nat.{_≤_}
-use mathlib.Core.Path.{_≡_, refl, _∙_}
+use mathlib.Core.Path.{_≡_, _∙_}
 use lib.ListN.{length, drop}
 use Rattle.table.specs.Table.{partAt}
-use Rattle.table.proofs.Laws.{before-inside, before-le, part-turn, part-end, part-long}
+use Rattle.table.proofs.Laws.{before-inside, part-turn, part-end, part-long}
 use borrow.Author.Needs.{needs}
 use native.Mathlib.Omega.{arith}
 use Rattle.table.proofs.part.Statement.{statement}

@@ -1,16 +1,16 @@
--- `control::fill_change` meets its contract: bands that fit are stored. Assumes nothing.
+-- `bands::fill_change` meets its contract: bands that fit are stored. Assumes nothing.
 use borrow.Author.Needs.{needs}
 use native.Mathlib.Omega.{arith}
 use Prim.Native.Nat.{_+_, _≤_}
 use mathlib.Core.Path.{sym, _∙_, ap, subst}
 use lib.ListN.{length}
 use Rattle.grammar.specs.Control.{Order}
-use Rattle.control.specs.Fill.{orderWords}
+use Rattle.bands.specs.Fill.{orderWords}
 use lib.Seq.{slice}
 use Rattle.outcome.proofs.Laws.{part-slice, ok-injective}
-use Rattle.control.proofs.Fill.{change-is, change-count, change-filled, change-kept}
-use Rattle.control.proofs.fill_change.Statement.{statement}
-use Rattle.control.proofs.fill_change.Tie as tie
+use Rattle.bands.proofs.Fill.{change-is, change-count, change-filled, change-kept}
+use Rattle.bands.proofs.fill_change.Statement.{statement}
+use Rattle.bands.proofs.fill_change.Tie as tie
 
 word-at-requires : tie.Need-word-at-requires
 word-at-requires c κs = omega (arith, change-is _ _ _ (c .before .before .pre .1 .0) (c .before .before .pre .0) (c .before .before .pre .1 .1) .head)

@@ -1,8 +1,8 @@
--- `chg_colcon::look_band` meets its contract. Assumes nothing.
+-- `look::look_band` meets its contract. Assumes nothing.
 use borrow.Author.Needs.{needs}
 use borrow.Author.Tests.{le-leb, lt-leb}
-use Rattle.chg_colcon.proofs.look_band.Statement.{statement}
-use Rattle.chg_colcon.proofs.look_band.Tie as tie
+use Rattle.look.proofs.look_band.Statement.{statement}
+use Rattle.look.proofs.look_band.Tie as tie
 
 sub-first : tie.Need-sub-first
 sub-first c = search needs

@@ -1,13 +1,13 @@
--- `control::fill_command` meets its contract: by its byte. Assumes nothing.
+-- `bands::fill_command` meets its contract: by its byte. Assumes nothing.
 use borrow.Author.Needs.{needs}
 use native.Mathlib.Omega.{arith}
 use Prim.Native.Nat.{_+_}
-use Rattle.control.proofs.Fill.{order-changes, order-plain, plain-filled}
+use Rattle.bands.proofs.Fill.{order-changes, order-plain, plain-filled}
 use mathlib.Core.Path.{ap}
 use Rattle.grammar.specs.Control.{sizeOf}
 use Rattle.control.proofs.Laws.{order-sound}
-use Rattle.control.proofs.fill_command.Statement.{statement}
-use Rattle.control.proofs.fill_command.Tie as tie
+use Rattle.bands.proofs.fill_command.Statement.{statement}
+use Rattle.bands.proofs.fill_command.Tie as tie
 
 shared-slice-read-code : tie.Need-shared-slice-read-code
 shared-slice-read-code c = search needs

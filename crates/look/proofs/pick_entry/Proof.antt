@@ -1,7 +1,7 @@
--- `chg_colcon::pick_entry` meets its contract. Assumes nothing.
+-- `look::pick_entry` meets its contract. Assumes nothing.
 use borrow.Author.Tests.{le-leb, lt-leb}
-use Rattle.chg_colcon.proofs.pick_entry.Statement.{statement}
-use Rattle.chg_colcon.proofs.pick_entry.Tie as tie
+use Rattle.look.proofs.pick_entry.Statement.{statement}
+use Rattle.look.proofs.pick_entry.Tie as tie
 
 returns : tie.Need-returns
 returns c = rw (le-leb _ _ (c .if1 .taken))

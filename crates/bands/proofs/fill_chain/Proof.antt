@@ -1,11 +1,11 @@
--- `control::fill_chain` meets its contract: each turn stores one block's words. Assumes nothing.
+-- `bands::fill_chain` meets its contract: each turn stores one block's words. Assumes nothing.
 use borrow.Author.Needs.{needs}
 use native.Mathlib.Omega.{arith}
 use Prim.Native.Nat.{_-_}
 use mathlib.Core.Path.{_∙_}
-use Rattle.control.proofs.Fill.{Chain-filling, chain-starts, chain-ends, chain-has, chain-last, chain-goes}
-use Rattle.control.proofs.fill_chain.Statement.{statement}
-use Rattle.control.proofs.fill_chain.Tie as tie
+use Rattle.bands.proofs.Fill.{Chain-filling, chain-starts, chain-ends, chain-has, chain-last, chain-goes}
+use Rattle.bands.proofs.fill_chain.Statement.{statement}
+use Rattle.bands.proofs.fill_chain.Tie as tie
 
 abbrev Inv-loop : tie.InvT-loop
 Inv-loop unit end from words₀ pos₀ to₀ words pos to = Chain-filling unit end from words₀ pos to words

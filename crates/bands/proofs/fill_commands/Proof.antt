@@ -1,10 +1,10 @@
--- `control::fill_commands` meets its contract: each turn stores one command's words. Assumes nothing.
+-- `bands::fill_commands` meets its contract: each turn stores one command's words. Assumes nothing.
 use borrow.Author.Needs.{needs}
 use native.Mathlib.Omega.{arith}
 use Prim.Native.Nat.{_-_}
-use Rattle.control.proofs.Fill.{Filling, filling-starts, filling-has, filling-falls, filling-goes, filling-ends}
-use Rattle.control.proofs.fill_commands.Statement.{statement}
-use Rattle.control.proofs.fill_commands.Tie as tie
+use Rattle.bands.proofs.Fill.{Filling, filling-starts, filling-has, filling-falls, filling-goes, filling-ends}
+use Rattle.bands.proofs.fill_commands.Statement.{statement}
+use Rattle.bands.proofs.fill_commands.Tie as tie
 
 abbrev Inv-loop : tie.InvT-loop
 Inv-loop unit end from words₀ start at₀ to₀ words at to = Filling unit end from start words₀ at to words

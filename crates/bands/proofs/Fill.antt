@@ -4,7 +4,7 @@ use native.Mathlib.Omega.{arith}
 use mathlib.Core.Path.{_≡_, refl, sym, ap, _∙_, subst}
 use mathlib.Core.Bool.{Bool, true, false, cond}
 use mathlib.Core.Logic.{_⊎_, inl, inr}
-use mathlib.Core.Option.{Option, some, none}
+use mathlib.Core.Option.{some, none}
 use mathlib.Core.List.{List, [], _∷_, _++_, append-assoc, append-nil}
 use lib.ListN.{length, length-append}
 use lib.Dec.{leb, eqb}
@@ -20,13 +20,13 @@ use Rattle.chg_colcon.specs.Bands.{bandsOf}
 use Rattle.chg_colcon.specs.Answers.{countOf, stored, Stored}
 use Rattle.chg_colcon.specs.declared.BandAnswer.{BandAnswer}
 use Rattle.chg_colcon.specs.declared.BandAnswer.the-variants as band-answer
-use Rattle.chg_colcon.proofs.Look.{words-join}
+use Rattle.chg_colcon.proofs.Laws.{words-join}
 use Rattle.control.specs.Listed.{bandsAt}
 use Rattle.control.specs.Chain.{plainAt, changeAt, orderAt, command, commandAt, commandsAt, block, blockAt, chainNext, blocksAt, chainAt, hasArea, controlAt}
-use Rattle.control.specs.Fill.{orderWords, blockWords, chainWords, unitWords, OrderFilled, Filled}
-use Rattle.control.specs.declared.Place.{Place}
+use Rattle.bands.specs.Fill.{orderWords, blockWords, chainWords, unitWords, OrderFilled, Filled}
+use Rattle.bands.specs.declared.Place.{Place}
 use Rattle.control.proofs.Listed.{bands-listed}
 use Rattle.control.proofs.Laws.{order-sound, commands-step, blocks-step, blocks-iff, chain-iff}
 
 -- ---- A colour change
 

@@ -8,8 +8,8 @@ use Rattle.outcome.specs.Outcome.{listed}
 use Rattle.grammar.specs.Bands.{bandWords}
 use Rattle.grammar.specs.Control.{Order, sizeOf, Command, Block}
 use Rattle.grammar.specs.Record.{untold, tell, told}
 use Rattle.control.specs.Chain.{controlAt}
-use Rattle.control.specs.declared.Place.{Place}
+use Rattle.bands.specs.declared.Place.{Place}
 
 -- of an order: those of a colour change, and none of another
 unfoldable pub orderWords : Order → List ℕ

@@ -1,15 +1,15 @@
--- `chg_colcon::look_entries` meets its contract: the entries left, after what was found, are all entries. Assumes nothing.
+-- `look::look_entries` meets its contract: the entries left, after what was found, are all entries. Assumes nothing.
 use Prim.Native.Nat.{ℕ, _+_, _*_, _≤_}
 use native.Mathlib.Omega.{arith}
 use mathlib.Core.Path.{_≡_, refl, _∙_}
 use mathlib.Core.List.{List}
 use borrow.Author.Needs.{needs}
 use lib.ListN.{length, drop}
-use Rattle.chg_colcon.specs.Look.{told, entriesLook}
-use Rattle.chg_colcon.specs.declared.LookAnswer.{LookAnswer}
-use Rattle.chg_colcon.proofs.Look.{entries-more, entries-end}
-use Rattle.chg_colcon.proofs.look_entries.Statement.{statement}
-use Rattle.chg_colcon.proofs.look_entries.Tie as tie
+use Rattle.look.specs.Look.{told, entriesLook}
+use Rattle.look.specs.declared.LookAnswer.{LookAnswer}
+use Rattle.look.proofs.Look.{entries-more, entries-end}
+use Rattle.look.proofs.look_entries.Statement.{statement}
+use Rattle.look.proofs.look_entries.Tie as tie
 
 pub record Inv (words : List ℕ) (from n x : ℕ) (look₀ look : LookAnswer) (at left : ℕ) : Type 0 where
   pub room : at + 3 * left ≤ length words

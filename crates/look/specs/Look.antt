@@ -1,13 +1,16 @@
 -- What stored words give at a place of the display (FORMAT 4.6), for any words: they are taken three at a time, and one or two at the end say nothing.
 -- Assumes nothing: these are definitions.
 use Prim.Native.Nat.{ℕ, zero, suc}
+use mathlib.Core.Path.{_≡_}
 use mathlib.Core.Bool.{Bool, false, cond, _&&_}
 use mathlib.Core.Option.{Option, some, none}
 use mathlib.Core.List.{List, [], _∷_}
 use lib.Dec.{leb}
+use lib.ListN.{length}
+use Rattle.grammar.specs.Bands.{Band}
 use Rattle.grammar.specs.Look.{Look}
-use Rattle.chg_colcon.specs.declared.LookAnswer.{LookAnswer}
-use Rattle.chg_colcon.specs.declared.LookAnswer.the-variants as look-answer
+use Rattle.look.specs.declared.LookAnswer.{LookAnswer}
+use Rattle.look.specs.declared.LookAnswer.the-variants as look-answer
 
 abbrev pub look : ℕ → ℕ → Look
 look s a = record { selectors = s; alphas = a }
@@ -43,3 +46,8 @@ entriesLook x o (suc n) (a ∷ b ∷ c ∷ ws) = entriesLook x (pickEntry x a b 
 -- a band of lines a to b with n entries at the front of ws
 abbrev pub bandLook : ℕ → ℕ → ℕ → ℕ → ℕ → Option Look → List ℕ → Option Look
 bandLook x y a b n o ws = cond (leb a y && leb y b) (entriesLook x o n ws) o
+
+-- each band has as many entries as it counts, as the bands of a payload have, and of several payloads
+unfoldable pub Counted : List Band → Type 0
+Counted [] = Unit {0}
+Counted (b ∷ bs) = (length (b .entries) ≡ b .count) × Counted bs

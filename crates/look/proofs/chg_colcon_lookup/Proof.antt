@@ -1,4 +1,4 @@
--- `chg_colcon::chg_colcon_lookup` meets its contract: the bands left, after what was found, are all bands. Assumes nothing.
+-- `look::chg_colcon_lookup` meets its contract: the bands left, after what was found, are all bands. Assumes nothing.
 use Prim.Native.Nat.{ℕ, _+_, _-_, _≤_}
 use native.Mathlib.Omega.{arith}
 use mathlib.Core.Path.{_≡_, refl, _∙_}
@@ -7,11 +7,11 @@ use mathlib.Core.List.{List}
 use borrow.Author.Needs.{needs}
 use denote.Ref.{now}
 use lib.ListN.{length, drop}
-use Rattle.chg_colcon.specs.Look.{told, looking, lookWords}
-use Rattle.chg_colcon.specs.declared.LookAnswer.{LookAnswer}
-use Rattle.chg_colcon.proofs.Look.{bands-more, bands-end}
-use Rattle.chg_colcon.proofs.chg_colcon_lookup.Statement.{statement}
-use Rattle.chg_colcon.proofs.chg_colcon_lookup.Tie as tie
+use Rattle.look.specs.Look.{told, looking, lookWords}
+use Rattle.look.specs.declared.LookAnswer.{LookAnswer}
+use Rattle.look.proofs.Look.{bands-more, bands-end}
+use Rattle.look.proofs.chg_colcon_lookup.Statement.{statement}
+use Rattle.look.proofs.chg_colcon_lookup.Tie as tie
 
 pub record Inv (words : List ℕ) (x y : ℕ) (look : LookAnswer) (at : ℕ) : Type 0 where
   pub inside : at ≤ length words

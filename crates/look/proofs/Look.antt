@@ -6,15 +6,14 @@ use mathlib.Core.Path.{_≡_, refl, ap, sym, _∙_}
 use mathlib.Core.Bool.{Bool, true, false, cond, _&&_}
 use mathlib.Core.Logic.{⊎-elim}
 use mathlib.Core.Option.{Option}
-use mathlib.Core.List.{List, [], _∷_, _++_, append-assoc}
+use mathlib.Core.List.{List, [], _∷_, _++_}
 use lib.Dec.{leb}
 use lib.ListN.{length, getD, drop, length-drop}
 use lib.Seq.{drop-cons, drop-drop}
 use Rattle.outcome.proofs.Laws.{le-or-lt}
 use Rattle.grammar.specs.Bands.{Entry, Band, Bands, entryWords, bandWords, bandEnd}
 use Rattle.grammar.specs.Look.{Look, rightmost, lastLook, lookAt}
-use Rattle.chg_colcon.specs.Claim.{Counted}
-use Rattle.chg_colcon.specs.Look.{pickEntry, looking, lookWords, entriesLook, bandLook}
+use Rattle.look.specs.Look.{Counted, pickEntry, looking, lookWords, entriesLook, bandLook}
 
 -- three words at a place
 pub drop3 : (ws : List ℕ) (i : ℕ) → i + 3 ≤ length ws → drop i ws ≡ getD ws i 0 ∷ getD ws (i + 1) 0 ∷ getD ws (i + 2) 0 ∷ drop (i + 3) ws
@@ -131,11 +130,3 @@ pub counted-join : (cs bs : List Band) → Counted cs → Counted bs → Counted
 unfolding Counted
 counted-join [] bs g h = h
 counted-join (a ∷ cs) bs g h = (g .0, counted-join cs bs (g .1) h)
-
--- joined bands are stored one payload after the other
-pub words-join : (cs bs : List Band) → bandWords (cs ++ bs) ≡ bandWords cs ++ bandWords bs
-unfolding bandWords
-words-join [] bs = refl
-words-join (a ∷ cs) bs =
-    ap (λ (l : List ℕ). a .first ∷ a .last ∷ a .count ∷ l)
-    (ap (λ (l : List ℕ). entryWords (a .entries) ++ l) (words-join cs bs) ∙ sym (append-assoc (entryWords (a .entries)) (bandWords cs) (bandWords bs)))

@@ -1,15 +1,15 @@
--- `control::fill_bands` meets its contract: the words of all blocks, from the first word on. Assumes nothing.
+-- `bands::fill_bands` meets its contract: the words of all blocks, from the first word on. Assumes nothing.
 use borrow.Author.Needs.{needs}
 use native.Mathlib.Omega.{arith}
 use mathlib.Core.Path.{_≡_, sym, _∙_, ap}
 use mathlib.Core.Option.{some}
 use lib.ListN.{length}
 use lib.Seq.{sets}
 use Rattle.control.specs.Chain.{blocksAt}
-use Rattle.control.proofs.Fill.{unit-read}
-use Rattle.control.specs.Fill.{chainWords, unitWords}
-use Rattle.control.proofs.fill_bands.Statement.{statement}
-use Rattle.control.proofs.fill_bands.Tie as tie
+use Rattle.bands.proofs.Fill.{unit-read}
+use Rattle.bands.specs.Fill.{chainWords, unitWords}
+use Rattle.bands.proofs.fill_bands.Statement.{statement}
+use Rattle.bands.proofs.fill_bands.Tie as tie
 
 word-at-requires : tie.Need-word-at-requires
 word-at-requires c κs = omega (arith, unit-read _ (c .before .before .pre .0) .is .head)
