@@ -10,11 +10,12 @@ use Rattle.grammar.specs.Pixels.{rowPixels, codesIn, indexMap}
 use Rattle.grammar.specs.Record.{untold, tellBlock, tellChain}
 use Rattle.grammar.specs.Picture.{topEnd}
 use Rattle.grammar.specs.Packets.{joined, unitOf}
-use Rattle.ps.specs.Packets.{leading, header1At, headerAt, bodyAt, keptAt, packAt, privateAt, kindAt, packetAt, packetsAt, isBare, formAt}
-use Rattle.rle.specs.Codes.{codeFrom, codeAt, rowAt, fieldAt}
+use Rattle.packets.specs.Packets.{leading, header1At, headerAt, bodyAt, keptAt, packAt, privateAt, kindAt, packetAt}
+use Rattle.ps.specs.Packets.{packetsAt, isBare, formAt}
+use Rattle.codes.specs.Codes.{codeFrom, codeAt, rowAt, fieldAt}
 use Rattle.rle.specs.Field.{rowsFrom, paintField, decoded}
 use Rattle.rle.specs.Answers.{rowCounts, fieldCounts}
-use Rattle.rle.specs.Fields.{weave, lowerAt, fieldsAt}
+use Rattle.fields.specs.Fields.{weave, lowerAt, fieldsAt}
 use Rattle.control.specs.Chain.{plainAt, changeAt, orderAt, commandAt, commandsAt, blockAt, blocksAt, headFits, chainAt, controlAt}
 use Rattle.grammar.specs.Bands.{entryWords, bandWords}
 use Rattle.control.specs.Answers.{spuOf}

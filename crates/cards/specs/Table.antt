@@ -15,7 +15,7 @@ use Rattle.grammar.specs.Pixels.{codesIn, indexMap}
 use Rattle.grammar.specs.Control.{forced-start, stop, selectors, alphas, area, offsets, colours, Block}
 use Rattle.grammar.specs.Packets.{subpicture, unitOf}
 use Rattle.grammar.specs.Record.{told, delayOf, width, height}
-use Rattle.rle.specs.Codes.{codeAt}
+use Rattle.codes.specs.Codes.{codeAt}
 use Rattle.rle.specs.Field.{decoded, paintField}
 use Rattle.rle.specs.Answers.{fieldCounts}
 use Rattle.control.specs.Chain.{command}

@@ -11,6 +11,7 @@ use lib.Dec.{ltb, eqb}
 use lib.ListN.{length, getD, drop, take, set, length-drop, length-append}
 use Rattle.outcome.proofs.Laws.{sets-append}
 use lib.Seq.{sets, take-all, drop-drop, length-sets}
+use Rattle.grammar.specs.Bands.{Band, entryWords, bandWords}
 use Rattle.chg_colcon.specs.Bands.{wordOf, push3, header, headOf, entryOf, onHead, onEntry, bandsOf, entriesOf}
 use Rattle.chg_colcon.specs.Answers.{countOf, stored, Stored, pushes, restOf, lastOf, Part, Goes, ListRead}
 use Rattle.chg_colcon.specs.declared.Stop.{Stop}
@@ -292,3 +293,11 @@ module _ (s : List ℕ) (at : ℕ) (ws : List ℕ) where
       go : (g : Res (List ℕ)) → bandsOf s ≡ g → countOf 0 g ≡ band-answer.Refused k → Stored s at ws (band-answer.Refused k) ws
       go (ok v) q e = let z : _≡_ {A = ℕ} 0 1 = cc in absurd (omega arith)
       go (refuse m) q e = record { answer = rw q (sym e); words = rw q }
+
+-- joined bands are stored one payload after the other
+pub words-join : (cs bs : List Band) → bandWords (cs ++ bs) ≡ bandWords cs ++ bandWords bs
+unfolding bandWords
+words-join [] bs = refl
+words-join (a ∷ cs) bs =
+    ap (λ (l : List ℕ). a .first ∷ a .last ∷ a .count ∷ l)
+    (ap (λ (l : List ℕ). entryWords (a .entries) ++ l) (words-join cs bs) ∙ sym (append-assoc (entryWords (a .entries)) (bandWords cs) (bandWords bs)))

@@ -1,8 +1,8 @@
--- What the layer claims, in the grammar's words; `proofs/Claim.antt` and `proofs/Look.antt` have it kept. Assumes nothing: these are definitions.
+-- What the layer claims, in the grammar's words; `proofs/Claim.antt` has it kept. Assumes nothing: these are definitions.
 use Prim.Native.Nat.{ℕ, _+_, _≤_, _<_}
 use mathlib.Core.Path.{_≡_}
 use mathlib.Core.Logic.{_⊎_}
-use mathlib.Core.List.{List, [], _∷_}
+use mathlib.Core.List.{List}
 use lib.ListN.{length}
 use lib.Seq.{sets}
 use Rattle.outcome.specs.Outcome.{no-band-list, short-words}
@@ -23,8 +23,3 @@ Says s at ws ws′ (band-answer.Words n) =
     (vs : List ℕ) × Listing s (length s) 0 vs × (n ≡ length vs) × (at + n ≤ length ws) × (ws′ ≡ sets ws at vs)
 Says s at ws ws′ (band-answer.Refused k) =
     (ws′ ≡ ws) × (((k ≡ no-band-list) × ((vs : List ℕ) → Listing s (length s) 0 vs → ⊥)) ⊎ ((k ≡ short-words) × ((vs : List ℕ) × Listing s (length s) 0 vs × (length ws < at + length vs))))
-
--- each band has as many entries as it counts, as the bands of a payload have, and of several payloads
-unfoldable pub Counted : List Band → Type 0
-Counted [] = Unit {0}
-Counted (b ∷ bs) = (length (b .entries) ≡ b .count) × Counted bs

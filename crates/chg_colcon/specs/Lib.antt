@@ -1,4 +1,3 @@
 pub mod Bands
 pub mod Answers
-pub mod Look
 pub mod Claim

@@ -3,4 +3,3 @@ pub mod Listed
 pub mod Laws
 pub mod Told
 pub mod Turns
-pub mod Fill

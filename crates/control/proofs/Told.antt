@@ -13,7 +13,7 @@ use lib.ListN.{length, length-append}
 use Rattle.grammar.specs.Bands.{Band, bandWords}
 use Rattle.grammar.specs.Control.{Order, sizeOf, forced-start, start, stop, selectors, alphas, area, offsets, colours}
 use Rattle.grammar.specs.Record.{Told, tell, first, delayOf}
-use Rattle.chg_colcon.proofs.Look.{words-join}
+use Rattle.chg_colcon.proofs.Laws.{words-join}
 use Rattle.control.specs.Answers.{given, spuOf}
 use Rattle.control.specs.declared.Spu.{Spu}
 

@@ -26,7 +26,7 @@ use Rattle.control.specs.Answers.{spuOf, orderAnswer, commandsAnswer, ch
 use Rattle.control.specs.declared.Spu.{Spu}
 use Rattle.control.specs.declared.CommandAnswer.the-variants as command-answer
 use Rattle.control.specs.declared.ControlAnswer.the-variants as control-answer
-use Rattle.chg_colcon.proofs.Look.{words-join}
+use Rattle.chg_colcon.proofs.Laws.{words-join}
 use Rattle.control.proofs.Laws.{order-sound, commands-iff, commands-step, blocks-step}
 use Rattle.control.proofs.Listed.{bands-listed, bands-few}
 

@@ -1,4 +1,3 @@
 pub mod Listed
 pub mod Chain
 pub mod Answers
-pub mod Fill

@@ -15,7 +15,7 @@ use Rattle.grammar.specs.Pixels.{rowPixels, codesIn, indexMap}
 use Rattle.grammar.specs.Control.{Order, start, selectors, alphas, area, offsets, Command, IsCommand, Commands, Block, Chain, IsChain, controlWord}
 use Rattle.grammar.specs.Record.{told, untold, tellBlock, tellChain, width}
 use Rattle.grammar.specs.Picture.{evens, odds, topEnd, Stay0, Bottom, ListedUnit, IsUnit}
-use Rattle.rle.specs.Fields.{weave}
+use Rattle.fields.specs.Fields.{weave}
 use Rattle.spu.proofs.Grammar.{Paired, weave-length, weave-evens, weave-odds, weave-whole, evens-length, odds-length}
 use Rattle.demo.specs.Codes.{Mark, digits, nibblesOf, rowMarks, rowNibbles, fieldNibbles, marksIn, packed, pictureRows}
 use Rattle.demo.specs.Unit.{Four, wordBytes, controlBytes, topNibbles, bottomNibbles, unitOf}

@@ -1,4 +1,7 @@
 // The numbers that refusals carry, one name each (docs/FORMAT.md, table of refusals). A layer adds its own here.
+// And the functions that several layers call.
+ghost use mathlib.Core.Path.{_≡_};
+ghost use Prim.Native.Nat.{_+_, _*_, min};
 
 // A byte of the index text is 80 or above.
 pub const HIGH_BYTE: u8 = 1;
@@ -92,3 +95,17 @@ pub const LONG_UNIT: u8 = 30;
 
 // The lent output is shorter than the unit.
 pub const SHORT_OUTPUT: u8 = 31;
+
+// The lesser of two numbers.
+pub fn lesser(a: usize, b: usize) -> usize
+    ensures { λ r. ⌜ r ≡ min a b ⌝ }
+{
+    if a < b { a } else { b }
+}
+
+// The number that two bytes make, the high one first.
+pub fn word_of(a: u8, b: u8) -> usize
+    ensures { λ r. ⌜ r ≡ a * 256 + b ⌝ }
+{
+    a as usize * 256 + b as usize
+}

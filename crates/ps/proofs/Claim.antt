@@ -14,14 +14,15 @@ use Rattle.outcome.proofs.Laws.{ok-not-refuse, ok-injective, check-ok, check-re
 use Rattle.outcome.proofs.Lists.{list-refuses}
 use Rattle.grammar.specs.Bytes.{word}
 use Rattle.grammar.specs.Packets.{Form, bare, packets, IsForm, unitOf, scratchFor, subpicture}
-use Rattle.ps.specs.Packets.{part, Stand, stand, standDone, standPacket, standNext, packetsAt, isBare, formAt}
+use Rattle.packets.specs.Packets.{part}
+use Rattle.ps.specs.Packets.{Stand, stand, standDone, standPacket, standNext, packetsAt, isBare, formAt}
 use Rattle.ps.specs.Unit.{unitAt}
 use Rattle.ps.specs.Answers.{formGiven, formStored, unitGiven, unitStored, unitPart, Extracted}
 use Rattle.ps.specs.Claim.{Holds, Says}
 use Rattle.ps.specs.declared.UnitAnswer.{UnitAnswer}
 use Rattle.ps.specs.declared.UnitAnswer.the-variants as unit-answer
 use Rattle.ps.proofs.Laws.{packet-falls, form-iff}
-use Rattle.ps.proofs.Read.{packet-refuses}
+use Rattle.packets.proofs.Read.{packet-refuses}
 
 module _ (f : List ℕ) (p : ℕ) where
   -- a unit is found with n bytes of scratch exactly where it is found and they are enough

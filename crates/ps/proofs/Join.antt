@@ -14,13 +14,14 @@ use Rattle.outcome.proofs.Laws.{ok-not-refuse, ok-injective, consRes-ok, sets-a
 use Rattle.outcome.proofs.Lists.{list-step}
 use Rattle.grammar.specs.Bytes.{byte, word}
 use Rattle.grammar.specs.Packets.{Packet, keptBytes, joined, packets, unitOf, subpicture}
-use Rattle.ps.specs.Packets.{packetAt, Stand, stand, complete, standDone, standPacket, standNext, packetsAt}
+use Rattle.packets.specs.Packets.{packetAt}
+use Rattle.ps.specs.Packets.{Stand, stand, complete, standDone, standPacket, standNext, packetsAt}
 use Rattle.ps.specs.Answers.{joinedGiven}
 use Rattle.ps.specs.declared.JoinedAnswer.{JoinedAnswer}
 use Rattle.ps.specs.declared.JoinedAnswer.the-variants as joined-answer
 use Rattle.ps.proofs.Laws.{packet-falls}
-use Rattle.ps.proofs.Shift.{byte-slice}
-use Rattle.ps.proofs.Read.{Told}
+use Rattle.packets.proofs.Shift.{byte-slice}
+use Rattle.packets.proofs.Read.{Told}
 
 -- ---- One packet more
 

@@ -1,138 +1,23 @@
 // The unit at a cue's position, bare or joined from the packets of a program stream (docs/FORMAT.md, section 2).
-use outcome::NO_UNIT;
 use outcome::PAST_FILE;
 use outcome::SHORT_SCRATCH;
+use outcome::lesser;
+use outcome::word_of;
+use packets::PacketAnswer;
+use packets::read_packet;
 ghost use mathlib.Core.Path.{_≡_};
 ghost use mathlib.Core.Bool.{cond};
-ghost use mathlib.Core.Option.{none};
 ghost use mathlib.Core.List.{List, []};
-ghost use Prim.Native.Nat.{_≤_, _<_, _+_, _-_, _*_, min};
+ghost use Prim.Native.Nat.{_≤_, _<_, _+_, _-_};
 ghost use lib.Dec.{ltb};
 ghost use lib.ListN.{length, take, drop};
 ghost use lib.Seq.{sets, slice};
 ghost use Rattle.outcome.specs.Outcome.{ok};
 ghost use Rattle.grammar.specs.Bytes.{byte, word};
-ghost use Rattle.grammar.specs.Packets.{Packet, packets, unitOf, bufferSize, stampSize, subpicture};
-ghost use Rattle.ps.specs.Packets.{leading, header1At, bodyAt, packet, packAt, privateAt, packetAt, packetsAt, isBare};
+ghost use Rattle.grammar.specs.Packets.{Packet, packets, unitOf, subpicture};
+ghost use Rattle.ps.specs.Packets.{packetsAt, isBare};
 ghost use Rattle.ps.specs.Unit.{joinedAt};
-ghost use Rattle.ps.specs.Answers.{bodyGiven, bodyAnswer, bodyFound, bodyRest, packetGiven, wholeGiven, joinedGiven, unitGiven, unitStored, unitPart, Extracted};
-
-// Where the body of a PES starts.
-enum BodyAnswer {
-    At(usize),
-    // The number of the refusal.
-    Refused(u8),
-}
-
-// How many of the first 16 bytes are stuffing, up to the first that is not.
-fn stuffing(pes: &[u8]) -> usize
-    ensures { λ r. ⌜ r ≡ leading 16 (now (pes .entry)) 0 ⌝ }
-{
-    let mut n = 0;
-    while n < 16 {
-        if pes.len() <= n {
-            return n;
-        }
-        if pes[n] != 0xFF {
-            return n;
-        }
-        n += 1;
-    }
-    n
-}
-
-// The bytes of a buffer size that starts with b.
-fn buffer_size(b: u8) -> usize
-    ensures { λ r. ⌜ (r ≡ bufferSize b) × (r ≤ 2) ⌝ }
-{
-    if b / 64 == 1 {
-        return 2;
-    }
-    0
-}
-
-// The bytes of stamps that start with b.
-fn stamp_size(b: u8) -> usize
-    ensures { λ r. ⌜ (r ≡ stampSize b) × (r ≤ 10) ⌝ }
-{
-    if b / 16 == 2 {
-        return 5;
-    }
-    if b / 16 == 3 {
-        return 10;
-    }
-    if b == 0x0F {
-        return 1;
-    }
-    0
-}
-
-// The body behind a header in the older form, with n bytes of stuffing.
-fn older_body(pes: &[u8], n: usize) -> BodyAnswer
-    requires { ⌜ n ≤ 16 ⌝ }
-    ensures { λ r. ⌜ r ≡ bodyAnswer (length (now (pes .entry))) (header1At (now (pes .entry)) 0 (length (now (pes .entry))) n) ⌝ }
-{
-    if pes.len() <= n {
-        return BodyAnswer::Refused(NO_UNIT);
-    }
-    let stamp = n + buffer_size(pes[n]);
-    if pes.len() <= stamp {
-        return BodyAnswer::Refused(NO_UNIT);
-    }
-    let body = stamp + stamp_size(pes[stamp]);
-    if pes.len() < body {
-        return BodyAnswer::Refused(NO_UNIT);
-    }
-    BodyAnswer::At(body)
-}
-
-// The body of a PES.
-fn body_start(pes: &[u8]) -> BodyAnswer
-    ensures { λ r. ⌜ r ≡ bodyGiven (bodyAt (now (pes .entry)) 0 (length (now (pes .entry)))) ⌝ }
-{
-    if pes.len() == 0 {
-        return BodyAnswer::Refused(NO_UNIT);
-    }
-    if pes[0] / 64 == 2 {
-        if pes.len() < 3 {
-            return BodyAnswer::Refused(NO_UNIT);
-        }
-        let body = 3 + pes[2] as usize;
-        if pes.len() < body {
-            return BodyAnswer::Refused(NO_UNIT);
-        }
-        return BodyAnswer::At(body);
-    }
-    let n = stuffing(pes);
-    older_body(pes, n)
-}
-
-// The body of a PES, as the rest of it; `found` says whether there is one.
-// Ruled out: stuffing looked for in a header of the newer form; a rest that starts past the PES.
-pub fn parse_pes_body<'a>(pes: &'a [u8], found: &mut bool) -> &'a [u8]
-    ensures { λ r. ⌜ (now r ≡ bodyRest (now (pes .entry)) (bodyAt (now (pes .entry)) 0 (length (now (pes .entry))))) × (now (found .exit) ≡ bodyFound (bodyAt (now (pes .entry)) 0 (length (now (pes .entry))))) ⌝ }
-{
-    match body_start(pes) {
-        BodyAnswer::At(body) => {
-            *found = true;
-            &pes[body..]
-        }
-        BodyAnswer::Refused(_) => {
-            *found = false;
-            &pes[0..0]
-        }
-    }
-}
-
-// What the packet at a place is.
-enum PacketAnswer {
-    // It keeps the bytes from the first place up to the second, where it ends.
-    Keeps(usize, usize),
-    // It keeps nothing; the place after it.
-    Passes(usize),
-    // The number of the refusal.
-    Refused(u8),
-}
+ghost use Rattle.ps.specs.Answers.{joinedGiven, unitGiven, unitStored, unitPart, Extracted};
 
 // How many bytes the packets from a place on give a unit.
 enum JoinedAnswer {
@@ -149,108 +34,6 @@ pub enum UnitAnswer {
     Joined(usize),
     // The number of the refusal.
     Refused(u8),
-}
-
-fn word_of(a: u8, b: u8) -> usize
-    ensures { λ r. ⌜ r ≡ a * 256 + b ⌝ }
-{
-    a as usize * 256 + b as usize
-}
-
-// Whether an id is a subpicture stream's.
-fn is_subpicture(b: u8) -> bool
-    ensures { λ r. ⌜ r ≡ subpicture b ⌝ }
-{
-    if b < 0x20 {
-        return false;
-    }
-    b <= 0x3F
-}
-
-// A packet of `size` bytes that keeps nothing.
-fn passing(file: &[u8], at: usize, size: usize) -> PacketAnswer
-    requires { ⌜ at ≤ length (now file) ⌝ }
-    ensures { λ r. ⌜ r ≡ wholeGiven (length (now (file .entry))) (ok (packet (now (file .entry)) at (at + size) none)) ⌝ }
-{
-    if file.len() - at < size {
-        return PacketAnswer::Refused(NO_UNIT);
-    }
-    PacketAnswer::Passes(at + size)
-}
-
-// A pack header.
-fn pack(file: &[u8], at: usize) -> PacketAnswer
-    requires { ⌜ at + 6 ≤ length (now file) ⌝ }
-    ensures { λ r. ⌜ r ≡ wholeGiven (length (now (file .entry))) (packAt subpicture (now (file .entry)) at) ⌝ }
-{
-    if file[at + 4] / 64 == 1 {
-        if file.len() - at < 14 {
-            return PacketAnswer::Refused(NO_UNIT);
-        }
-        let size = 14 + (file[at + 13] % 8) as usize;
-        return passing(file, at, size);
-    }
-    if file[at + 4] / 16 == 2 {
-        return passing(file, at, 12);
-    }
-    PacketAnswer::Refused(NO_UNIT)
-}
-
-// A private_stream_1 packet of `size` bytes after its length word.
-fn private_stream(file: &[u8], at: usize, size: usize) -> PacketAnswer
-    requires { ⌜ (at + 6 ≤ length (now file)) × (size ≡ word (now file) (at + 4)) ⌝ }
-    ensures { λ r. ⌜ r ≡ wholeGiven (length (now (file .entry))) (privateAt subpicture (now (file .entry)) at) ⌝ }
-{
-    let start = at + 6;
-    if file.len() - start < size {
-        return PacketAnswer::Refused(NO_UNIT);
-    }
-    let end = start + size;
-    let mut found = false;
-    let body = parse_pes_body(&file[start..end], &mut found);
-    if !found {
-        return PacketAnswer::Refused(NO_UNIT);
-    }
-    if body.len() == 0 {
-        return PacketAnswer::Passes(end);
-    }
-    if is_subpicture(body[0]) {
-        return PacketAnswer::Keeps(end - (body.len() - 1), end);
-    }
-    PacketAnswer::Passes(end)
-}
-
-// The packet at a place.
-fn read_packet(file: &[u8], at: usize) -> PacketAnswer
-    ensures { λ r. ⌜ r ≡ packetGiven (packetAt subpicture (now (file .entry)) at) ⌝ }
-{
-    if file.len() < 6 {
-        return PacketAnswer::Refused(NO_UNIT);
-    }
-    if file.len() - 6 < at {
-        return PacketAnswer::Refused(NO_UNIT);
-    }
-    if file[at] != 0 {
-        return PacketAnswer::Refused(NO_UNIT);
-    }
-    if file[at + 1] != 0 {
-        return PacketAnswer::Refused(NO_UNIT);
-    }
-    if file[at + 2] != 1 {
-        return PacketAnswer::Refused(NO_UNIT);
-    }
-    let code = file[at + 3];
-    if code == 0xBA {
-        return pack(file, at);
-    }
-    let size = word_of(file[at + 4], file[at + 5]);
-    if code == 0xBD {
-        return private_stream(file, at, size);
-    }
-    if code == 0xB9 {
-        return PacketAnswer::Refused(NO_UNIT);
-    }
-    passing(file, at, 6 + size)
 }
 
 // Byte j of what is joined once the bytes of the file from a up to e are: `old` where it was there before.
@@ -312,15 +95,6 @@ fn copy(file: &[u8], a: usize, m: usize, scratch: &mut [u8], to: usize)
     }
 }
 
-fn least(a: usize, b: usize) -> usize
-    ensures { λ r. ⌜ r ≡ min a b ⌝ }
-{
-    if a <= b {
-        return a;
-    }
-    b
-}
-
 // The unit of t bytes that the packets give, into the front of scratch.
 fn join_packets(file: &[u8], from: usize, t: usize, scratch: &mut [u8])
     requires { ⌜ ((ps : List Packet) × (packetsAt subpicture (now file) from [] ≡ ok ps) × (t ≡ length (unitOf (packets ps))) × (t ≤ length (now scratch))) ⌝ }
@@ -337,7 +111,7 @@ fn join_packets(file: &[u8], from: usize, t: usize, scratch: &mut [u8])
                 at = end;
             }
             PacketAnswer::Keeps(a, end) => {
-                let m = least(end - a, t - have);
+                let m = lesser(end - a, t - have);
                 copy(file, a, m, scratch, have);
                 have = have + m;
                 at = end;

@@ -15,14 +15,14 @@ use Rattle.outcome.proofs.Lists.{list-refuses}
 use Rattle.grammar.specs.Bytes.{nibbles}
 use Rattle.grammar.specs.Rows.{Code, paints, afterCodes, align}
 use Rattle.grammar.specs.Pixels.{codesIn}
-use Rattle.rle.specs.Codes.{made, codeFrom, codeAt, Standing, standing, rowDone, rowCode, rowNext, rowAt, fieldAt}
+use Rattle.codes.specs.Codes.{made, codeFrom, codeAt, Standing, standing, rowDone, rowCode, rowNext, rowAt, fieldAt}
 use Rattle.rle.specs.Field.{rowsFrom, paintField, decoded}
 use Rattle.rle.specs.Answers.{rowCounts, fieldCounts, fieldAnswer, Decoded}
 use Rattle.rle.specs.Claim.{Listing, Accepted}
 use Rattle.rle.specs.declared.Counts.{Counts}
 use Rattle.rle.specs.declared.FieldAnswer.{FieldAnswer}
 use Rattle.rle.specs.declared.FieldAnswer.the-variants as field-answer
-use Rattle.rle.proofs.Laws.{row-falls, field-iff}
+use Rattle.codes.proofs.Laws.{row-falls, field-iff}
 
 -- the number of codes is how many the rows list
 row-codes : (left : ℕ) (cs : List Code) → rowCounts left cs .codes ≡ length cs

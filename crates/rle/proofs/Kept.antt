@@ -10,17 +10,18 @@ use lib.Seq.{sets, sets-eq, length-sets, length-take-le, take-at, drop-cons, get
 use Rattle.outcome.specs.Outcome.{Res, ok, refuse, consRes, listed, IsOk}
 use Rattle.grammar.specs.Rows.{Code, code, colour, paints, RowCodes, afterCodes, align, FieldRows}
 use Rattle.grammar.specs.Pixels.{rowPixels}
-use Rattle.rle.specs.Codes.{rowAt, fieldAt}
+use Rattle.codes.specs.Codes.{rowAt, fieldAt}
 use Rattle.rle.specs.Field.{paintField}
 use Rattle.rle.specs.Kept.{widest, keptRun, keptRow, keptAll, leftAfter, placeAfter, paintKept, KeptFits}
 use Rattle.rle.specs.Answers.{rowCounts, fieldCounts, fieldAnswer}
-use Rattle.rle.specs.Fields.{partRows, Ready, Counted}
-use Rattle.rle.specs.declared.Cursor.{Cursor}
+use Rattle.rle.specs.Answers.{partRows, Ready, Counted}
+use Rattle.codes.specs.declared.Cursor.{Cursor}
 use Rattle.rle.specs.declared.Counts.{Counts}
 use Rattle.rle.specs.declared.FieldAnswer.the-variants as field-answer
-use Rattle.rle.proofs.Laws.{paints-le, row-none, field-iff}
+use Rattle.codes.proofs.Laws.{paints-le, row-none, field-iff}
 use Rattle.outcome.proofs.Laws.{sets-append}
-use Rattle.rle.proofs.Turns.{Coded, Rowed, row-turn, field-turn, blank, fielded}
+use Rattle.codes.proofs.Turns.{Coded}
+use Rattle.rle.proofs.Turns.{Rowed, row-turn, field-turn, blank, fielded}
 
 -- ---- Keeping
 

@@ -3,18 +3,16 @@
 use Prim.Native.Nat.{ℕ, _+_, _-_, _*_, _≤_}
 use mathlib.Core.Path.{_≡_}
 use mathlib.Core.List.{List, [], _∷_}
-use lib.ListN.{length}
+use lib.ListN.{length, take}
 use lib.Seq.{sets}
 use Rattle.outcome.specs.Outcome.{Res, ok, refuse, listed, IsOk}
 use Rattle.grammar.specs.Rows.{Code, paints, afterCodes}
 use Rattle.grammar.specs.Pixels.{rowPixels}
-use Rattle.rle.specs.Codes.{rowAt, fieldAt}
+use Rattle.codes.specs.Codes.{rowAt, fieldAt}
 use Rattle.rle.specs.Field.{decoded, paintField}
 use Rattle.rle.specs.Kept.{keptRow, keptAll}
-use Rattle.rle.specs.declared.Cursor.{Cursor}
+use Rattle.codes.specs.declared.Cursor.{Cursor}
 use Rattle.rle.specs.declared.Counts.{Counts}
-use Rattle.rle.specs.declared.CodeAnswer.{CodeAnswer}
-use Rattle.rle.specs.declared.CodeAnswer.the-variants as code-answer
 use Rattle.rle.specs.declared.RowAnswer.{RowAnswer}
 use Rattle.rle.specs.declared.RowAnswer.the-variants as row-answer
 use Rattle.rle.specs.declared.FieldAnswer.{FieldAnswer}
@@ -45,10 +43,6 @@ fieldCounts w [] = nothing
 fieldCounts w (r ∷ rs) = plus (rowCounts w r) (fieldCounts w rs)
 
 -- ---- Answers
-
-abbrev pub codeAnswer : Res Code → CodeAnswer
-codeAnswer (ok c) = code-answer.Got (c .size) (c .value) (record { pos = c .place + c .size })
-codeAnswer (refuse n) = code-answer.Refused n
 
 -- of a row of width w whose codes start at p: what it counts, and the place after it
 abbrev pub rowAnswer : ℕ → ℕ → Res (List Code) → RowAnswer
@@ -92,3 +86,18 @@ pub record RowsDecoded (s : List ℕ) (w n o : ℕ) (px : List ℕ) (r : FieldAn
 pub record Decoded (s : List ℕ) (w h start : ℕ) (px : List ℕ) (r : FieldAnswer) (px′ : List ℕ) : Type 0 where
   pub answer : r ≡ fieldAnswer w (decoded s w h start px)
   pub pixels : px′ ≡ paintField w (start * w) (listed (decoded s w h start px)) px
+
+-- ---- A way of working inside the layers of the run codes: a field as a slice of its own
+
+-- n rows of the field s
+abbrev pub partRows : List ℕ → ℕ → ℕ → Res (List (List Code))
+partRows s w n = fieldAt s (length s) w n 0
+
+-- a field's n rows are there, and their codes are the first `codes` of ks where it has room for them
+pub record Ready (s : List ℕ) (w n codes : ℕ) (ks : List ℕ) : Type 0 where
+  pub there : IsOk (partRows s w n)
+  pub kept : codes ≤ length ks → take codes ks ≡ keptAll w (listed (partRows s w n))
+
+-- a field's n rows are there and count b
+abbrev pub Counted : List ℕ → ℕ → ℕ → Counts → Type 0
+Counted s w n b = field-answer.Rows b ≡ measured s w n

@@ -7,7 +7,7 @@ use lib.Dec.{leb}
 use Rattle.outcome.specs.Outcome.{Res, check, short-pixels}
 use Rattle.grammar.specs.Rows.{Code}
 use Rattle.grammar.specs.Pixels.{rowPixels}
-use Rattle.rle.specs.Codes.{fieldAt}
+use Rattle.codes.specs.Codes.{fieldAt}
 
 -- how many of the rows start, start + 2, .. lie below height (FORMAT 5.7)
 unfoldable pub rowsFrom : ℕ → ℕ → ℕ

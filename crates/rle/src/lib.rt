@@ -1,51 +1,29 @@
-// The run codes of a picture's fields, read nibble by nibble into rows of the index map (docs/FORMAT.md, section 5).
-use outcome::FIELD_RAN_OUT;
+// The rows of a picture's fields, read code by code into rows of the index map (docs/FORMAT.md, section 5).
+use codes::CodeAnswer;
+use codes::Cursor;
+use codes::aligned;
+use codes::painted;
+use codes::read_code;
 use outcome::SHORT_PIXELS;
 ghost use mathlib.Core.Path.{_≡_};
-ghost use Prim.Native.Nat.{ℕ, _+_, _*_, _-_, _/_, _%_, _<_, _≤_, _^_, min};
+ghost use Prim.Native.Nat.{_+_, _*_, _-_, _%_, _<_, _≤_, _^_};
 ghost use lib.ListN.{length, replicate, set, take};
-ghost use lib.Seq.{sets, slice};
+ghost use lib.Seq.{sets};
 ghost use lib.Dec.{leb};
-ghost use Rattle.outcome.specs.Outcome.{ok, IsOk, listed};
-ghost use Rattle.grammar.specs.Bytes.{nibble};
-ghost use Rattle.rle.specs.Codes.{codeAt, rowAt, fieldAt};
+ghost use Rattle.outcome.specs.Outcome.{IsOk, listed};
+ghost use Rattle.codes.specs.Codes.{rowAt, fieldAt};
 ghost use Rattle.rle.specs.Field.{paintField};
 ghost use Rattle.rle.specs.Kept.{keptRun, leftAfter, placeAfter, paintKept, KeptFits};
-ghost use Rattle.grammar.specs.Rows.{code, paints, align};
-ghost use Rattle.rle.specs.Answers.{plus, AtMost, codeAnswer, fieldAnswer, plusField, measured};
+ghost use Rattle.rle.specs.Answers.{plus, AtMost, measured, partRows, Ready};
 ghost use Rattle.rle.specs.Answers.{RowMeasured, FieldMeasured, RowFilled, RowsDecoded, Decoded};
-ghost use Rattle.rle.specs.Fields.{fieldsAt, FieldsDecoded, bothAnswer, partRows, blankRows, BothFit, BothDecoded, Ready, Counted};
 
 // A row below this width has no run that a kept number could not hold.
 const WIDEST: usize = 16384;
-
-// A half-byte count over a field's bytes.
-pub struct Cursor {
-    pub pos: usize,
-}
-
-// Bytes of a unit: from one place up to another.
-pub struct Span {
-    pub from: usize,
-    pub to: usize,
-}
 
 // What rows count.
 pub struct Counts {
     // Codes read, fills and clipped ones included.
     pub codes: usize,
-}
-
-// What reading a code finds.
-pub enum CodeAnswer {
-    // A code of `size` nibbles that make `value`, and the place after it.
-    Got {
-        size: usize,
-        value: usize,
-        next: Cursor,
-    },
-    // The number of the refusal.
-    Refused(u8),
 }
 
 // What measuring a row finds.
@@ -62,89 +40,13 @@ pub enum FieldAnswer {
     Refused(u8),
 }
 
-// The nibble at half byte p.
-fn nibble_at(field: &[u8], p: usize) -> usize
-    requires { ⌜ p < 2 * length (now field) ⌝ }
-    ensures { λ r. ⌜ r ≡ nibble (now (field .entry)) p ⌝ }
-{
-    let i = p / 2;
-    let b = field[i] as usize;
-    if p % 2 == 0 { b / 16 } else { b % 16 }
-}
-
-// The code at a place: the first number of nibbles that makes a number large enough for it, four at most (FORMAT 5.2).
-// Ruled out: a place past the end taken for a fill; a longer code where a shorter one stands.
-pub fn read_code(field: &[u8], c: Cursor) -> CodeAnswer
-    ensures { λ r. ⌜ r ≡ codeAnswer (codeAt (now (field .entry)) (length (now (field .entry))) (c .pos)) ⌝ }
-{
-    let at = c.pos;
-    let total = field.len() * 2;
-    if total <= at {
-        return CodeAnswer::Refused(FIELD_RAN_OUT);
-    }
-    let room = total - at;
-    let mut value: usize = 0;
-    let mut size: usize = 0;
-    // 4 to the power of size: what a code of so many nibbles makes at least
-    let mut least: usize = 1;
-    while size < room {
-        value = value * 16 + nibble_at(field, at + size);
-        size += 1;
-        least *= 4;
-        let end = at + size;
-        if least <= value {
-            return CodeAnswer::Got {
-                size,
-                value,
-                next: Cursor { pos: end },
-            };
-        }
-        if size == 4 {
-            return CodeAnswer::Got {
-                size,
-                value,
-                next: Cursor { pos: end },
-            };
-        }
-    }
-    CodeAnswer::Refused(FIELD_RAN_OUT)
-}
-
-fn lesser(a: usize, b: usize) -> usize
-    ensures { λ r. ⌜ r ≡ min a b ⌝ }
-{
-    if a < b { a } else { b }
-}
-
-// How many of the pixels left a code paints.
-fn painted(left: usize, size: usize, value: usize) -> usize
-    ensures { λ r. ⌜ ((p : ℕ) → r ≡ paints left (code p size value)) ⌝ }
-{
-    let run = lesser(left, value / 4);
-    if size == 4 {
-        if value < 256 {
-            return left;
-        }
-        return run;
-    }
-    run
-}
-
-fn plus_counts(a: Counts, b: Counts) -> Counts
+pub fn plus_counts(a: Counts, b: Counts) -> Counts
     requires { ⌜ AtMost (2 ^ 64 - 1) (plus a b) ⌝ }
     ensures { λ r. ⌜ r ≡ plus a b ⌝ }
 {
     Counts {
         codes: a.codes + b.codes,
     }
-}
-
-// The first half byte from pos on that starts a byte.
-fn aligned(pos: usize) -> usize
-    requires { ⌜ pos < 2 ^ 64 - 1 ⌝ }
-    ensures { λ r. ⌜ r ≡ align pos ⌝ }
-{
-    pos + pos % 2
 }
 
 // A run of n pixels in the colour of a code, kept at place `at`, where there is room for it.
@@ -186,7 +88,7 @@ fn measure_row(field: &[u8], c: Cursor, width: usize, kept: &mut [u16], from: us
 }
 
 // A run of one colour: the one loop over pixels, which compiles to a fill.
-fn fill_run(pixels: &mut [u8], start: usize, count: usize, colour: u8)
+pub fn fill_run(pixels: &mut [u8], start: usize, count: usize, colour: u8)
     requires { ⌜ start + count ≤ length (now pixels) ⌝ }
     ensures { λ _. ⌜ now (pixels .exit) ≡ sets (now (pixels .entry)) start (replicate count colour) ⌝ }
 {
@@ -221,7 +123,7 @@ fn fill_row(field: &[u8], c: Cursor, width: usize, start: usize, pixels: &mut [u
 }
 
 // The codes of a field of so many rows, counted, and kept as far as there is room.
-fn measure_kept(field: &[u8], width: usize, rows: usize, kept: &mut [u16]) -> FieldAnswer
+pub fn measure_kept(field: &[u8], width: usize, rows: usize, kept: &mut [u16]) -> FieldAnswer
     ensures { λ r. ⌜ FieldMeasured (now (field .entry)) width rows (now (kept .entry)) r (now (kept .exit)) ⌝ }
 {
     let mut counts = Counts { codes: 0 };
@@ -322,7 +224,7 @@ fn holds(len: usize, width: usize, height: usize) -> bool
 }
 
 // A field that was measured, painted: its first row from place `start` on, each next one two rows on.
-fn fill_measured(
+pub fn fill_measured(
     field: &[u8],
     width: usize,
     rows: usize,
@@ -409,7 +311,7 @@ fn decode_large(
     decode_through(field, width, rows, start, &mut kept, pixels)
 }
 
-fn decode_sized(
+pub fn decode_sized(
     field: &[u8],
     width: usize,
     rows: usize,
@@ -464,232 +366,4 @@ pub fn decode_rle_field(
         return decode_rows(field, width, height, start_row, pixels);
     }
     FieldAnswer::Refused(SHORT_PIXELS)
-}
-
-// The bytes of a unit from one place up to another, none where the first is past the second.
-fn field_bytes(unit: &[u8], from: usize, to: usize) -> &[u8]
-    requires { ⌜ to ≤ length (now unit) ⌝ }
-    ensures { λ r. ⌜ now r ≡ slice from to (now (unit .entry)) ⌝ }
-{
-    let start = lesser(from, to);
-    &unit[start..to]
-}
-
-// The counts so far, and those of a field.
-fn measure_more(field: &[u8], width: usize, rows: usize, counts: Counts) -> FieldAnswer
-    requires { ⌜ counts .codes + rows * width < 2 ^ 64 ⌝ }
-    ensures { λ r. ⌜ r ≡ plusField counts (measured (now (field .entry)) width rows) ⌝ }
-{
-    match measure_field(field, width, rows) {
-        FieldAnswer::Rows(more) => FieldAnswer::Rows(plus_counts(counts, more)),
-        FieldAnswer::Refused(number) => FieldAnswer::Refused(number),
-    }
-}
-
-// The codes of two fields, counted: `rows` rows of the one and `more` of the other.
-fn measure_both(upper: &[u8], lower: &[u8], width: usize, rows: usize, more: usize) -> FieldAnswer
-    requires { ⌜ rows * width + more * width < 2 ^ 64 ⌝ }
-    ensures { λ r. ⌜ r ≡ bothAnswer width (partRows (now (upper .entry)) width rows) (partRows (now (lower .entry)) width more) ⌝ }
-{
-    match measure_field(upper, width, rows) {
-        FieldAnswer::Rows(counts) => measure_more(lower, width, more, counts),
-        FieldAnswer::Refused(number) => FieldAnswer::Refused(number),
-    }
-}
-
-// The codes of both fields of a picture, counted; `shown` says whether there is a bottom field.
-// Ruled out: codes of one field alone; a bottom field read where there is none.
-pub fn measure_fields(
-    unit: &[u8],
-    top: Span,
-    bottom: Span,
-    shown: bool,
-    width: usize,
-    height: usize,
-) -> FieldAnswer
-    requires { ⌜ (top .to ≤ length (now unit)) × (bottom .to ≤ length (now unit)) × (width * height < 2 ^ 64) ⌝ }
-    ensures { λ r. ⌜ r ≡ fieldAnswer width (fieldsAt (now (unit .entry)) (top .from) (top .to) (bottom .from) (bottom .to) shown width height) ⌝ }
-{
-    let more = height / 2;
-    let rows = more + height % 2;
-    let upper = field_bytes(unit, top.from, top.to);
-    if shown {
-        let lower = field_bytes(unit, bottom.from, bottom.to);
-        return measure_both(upper, lower, width, rows, more);
-    }
-    measure_field(upper, width, rows)
-}
-
-// Rows that stay 0: the first from place `start` on, each next one two rows on.
-fn fill_blank(width: usize, rows: usize, start: usize, pixels: &mut [u8])
-    requires { ⌜ start + rows * (2 * width) ≤ length (now pixels) + width ⌝ }
-    ensures { λ _. ⌜ now (pixels .exit) ≡ paintField width start (blankRows rows) (now (pixels .entry)) ⌝ }
-{
-    let mut left = rows;
-    let mut to = start;
-    while 0 < left {
-        fill_run(pixels, to, width, 0);
-        to = to + width + width;
-        left -= 1;
-    }
-}
-
-// The rows 0, 2, .. of a field, and rows 1, 3, .. that stay 0.
-fn decode_upper(
-    upper: &[u8],
-    width: usize,
-    rows: usize,
-    more: usize,
-    pixels: &mut [u8],
-) -> FieldAnswer
-    requires { ⌜ BothFit (length (now pixels)) width rows more ⌝ }
-    ensures { λ r. ⌜ BothDecoded width (partRows (now (upper .entry)) width rows) (ok (blankRows more)) (now (pixels .entry)) r (now (pixels .exit)) ⌝ }
-{
-    match decode_sized(upper, width, rows, 0, pixels) {
-        FieldAnswer::Rows(counts) => {
-            fill_blank(width, more, width, pixels);
-            FieldAnswer::Rows(counts)
-        }
-        FieldAnswer::Refused(number) => FieldAnswer::Refused(number),
-    }
-}
-
-// The rows 0, 2, .. of a field, and rows 1, 3, .. of one that was measured.
-fn decode_over(
-    upper: &[u8],
-    lower: &[u8],
-    width: usize,
-    rows: usize,
-    more: usize,
-    counts: Counts,
-    kept: &[u16],
-    pixels: &mut [u8],
-) -> FieldAnswer
-    requires { ⌜ BothFit (length (now pixels)) width rows more ⌝ }
-    requires { ⌜ Counted (now lower) width more counts × Ready (now lower) width more (counts .codes) (now kept) ⌝ }
-    ensures { λ r. ⌜ BothDecoded width (partRows (now (upper .entry)) width rows) (partRows (now (lower .entry)) width more) (now (pixels .entry)) r (now (pixels .exit)) ⌝ }
-{
-    match decode_sized(upper, width, rows, 0, pixels) {
-        FieldAnswer::Rows(first) => {
-            let n = counts.codes;
-            fill_measured(lower, width, more, width, n, kept, pixels);
-            FieldAnswer::Rows(plus_counts(first, counts))
-        }
-        FieldAnswer::Refused(number) => FieldAnswer::Refused(number),
-    }
-}
-
-// Two fields, both measured before the first pixel is stored: rows 0, 2, .. and rows 1, 3, .. .
-fn decode_both_through(
-    upper: &[u8],
-    lower: &[u8],
-    width: usize,
-    rows: usize,
-    more: usize,
-    kept: &mut [u16],
-    pixels: &mut [u8],
-) -> FieldAnswer
-    requires { ⌜ BothFit (length (now pixels)) width rows more ⌝ }
-    ensures { λ r. ⌜ BothDecoded width (partRows (now (upper .entry)) width rows) (partRows (now (lower .entry)) width more) (now (pixels .entry)) r (now (pixels .exit)) ⌝ }
-{
-    match measure_kept(lower, width, more, kept) {
-        FieldAnswer::Rows(counts) => {
-            decode_over(upper, lower, width, rows, more, counts, kept, pixels)
-        }
-        FieldAnswer::Refused(number) => FieldAnswer::Refused(number),
-    }
-}
-
-// The same with room of its own for the codes of the second field.
-fn decode_both_small(
-    upper: &[u8],
-    lower: &[u8],
-    width: usize,
-    rows: usize,
-    more: usize,
-    pixels: &mut [u8],
-) -> FieldAnswer
-    requires { ⌜ BothFit (length (now pixels)) width rows more ⌝ }
-    ensures { λ r. ⌜ BothDecoded width (partRows (now (upper .entry)) width rows) (partRows (now (lower .entry)) width more) (now (pixels .entry)) r (now (pixels .exit)) ⌝ }
-{
-    let mut kept = [0u16; 2048];
-    decode_both_through(upper, lower, width, rows, more, &mut kept, pixels)
-}
-
-fn decode_both_medium(
-    upper: &[u8],
-    lower: &[u8],
-    width: usize,
-    rows: usize,
-    more: usize,
-    pixels: &mut [u8],
-) -> FieldAnswer
-    requires { ⌜ BothFit (length (now pixels)) width rows more ⌝ }
-    ensures { λ r. ⌜ BothDecoded width (partRows (now (upper .entry)) width rows) (partRows (now (lower .entry)) width more) (now (pixels .entry)) r (now (pixels .exit)) ⌝ }
-{
-    let mut kept = [0u16; 16384];
-    decode_both_through(upper, lower, width, rows, more, &mut kept, pixels)
-}
-
-fn decode_both_large(
-    upper: &[u8],
-    lower: &[u8],
-    width: usize,
-    rows: usize,
-    more: usize,
-    pixels: &mut [u8],
-) -> FieldAnswer
-    requires { ⌜ BothFit (length (now pixels)) width rows more ⌝ }
-    ensures { λ r. ⌜ BothDecoded width (partRows (now (upper .entry)) width rows) (partRows (now (lower .entry)) width more) (now (pixels .entry)) r (now (pixels .exit)) ⌝ }
-{
-    let mut kept = [0u16; 65536];
-    decode_both_through(upper, lower, width, rows, more, &mut kept, pixels)
-}
-
-fn decode_both(
-    upper: &[u8],
-    lower: &[u8],
-    width: usize,
-    rows: usize,
-    more: usize,
-    pixels: &mut [u8],
-) -> FieldAnswer
-    requires { ⌜ BothFit (length (now pixels)) width rows more ⌝ }
-    ensures { λ r. ⌜ BothDecoded width (partRows (now (upper .entry)) width rows) (partRows (now (lower .entry)) width more) (now (pixels .entry)) r (now (pixels .exit)) ⌝ }
-{
-    if lower.len() <= 1024 {
-        return decode_both_small(upper, lower, width, rows, more, pixels);
-    }
-    if lower.len() <= 8192 {
-        return decode_both_medium(upper, lower, width, rows, more, pixels);
-    }
-    decode_both_large(upper, lower, width, rows, more, pixels)
-}
-
-// Both fields decoded into a map that holds them; rows 1, 3, .. stay 0 where `shown` says that there is no bottom field.
-// On a refusal the map is as found.
-// Ruled out: a top field painted under a bottom field that is refused; rows left as found where there is no bottom field.
-pub fn decode_rle_fields(
-    unit: &[u8],
-    top: Span,
-    bottom: Span,
-    shown: bool,
-    width: usize,
-    height: usize,
-    pixels: &mut [u8],
-) -> FieldAnswer
-    requires { ⌜ (top .to ≤ length (now unit)) × (bottom .to ≤ length (now unit)) × (width * height ≤ length (now pixels)) ⌝ }
-    ensures { λ r. ⌜ FieldsDecoded (now (unit .entry)) (top .from) (top .to) (bottom .from) (bottom .to) shown width height (now (pixels .entry)) r (now (pixels .exit)) ⌝ }
-{
-    if height == 0 {
-        return FieldAnswer::Rows(Counts { codes: 0 });
-    }
-    let more = height / 2;
-    let rows = more + height % 2;
-    let upper = field_bytes(unit, top.from, top.to);
-    if shown {
-        let lower = field_bytes(unit, bottom.from, bottom.to);
-        return decode_both(upper, lower, width, rows, more, pixels);
-    }
-    decode_upper(upper, width, rows, more, pixels)
 }

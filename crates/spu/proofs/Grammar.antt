@@ -16,11 +16,11 @@ use Rattle.grammar.specs.Record.{Told, told, width, height}
 use Rattle.grammar.specs.Picture.{evens, odds, topEnd, Stay0, Bottom, IsPicture, ListedUnit, IsUnit}
 use Rattle.control.specs.Chain.{hasArea, chainAt, controlAt}
 use Rattle.control.proofs.Laws.{chain-iff}
-use Rattle.rle.specs.Codes.{fieldAt}
+use Rattle.codes.specs.Codes.{fieldAt}
 use Rattle.rle.specs.Field.{rowsFrom}
-use Rattle.rle.specs.Fields.{weave, lowerAt, fieldsAt}
-use Rattle.rle.proofs.Laws.{field-iff}
-use Rattle.rle.proofs.Both.{fields-woven}
+use Rattle.fields.specs.Fields.{weave, lowerAt, fieldsAt}
+use Rattle.codes.proofs.Laws.{field-iff}
+use Rattle.fields.proofs.Both.{fields-woven}
 use Rattle.spu.specs.Unit.{hasBottom, rowsAt, listedUnit, unitAt}
 use Rattle.spu.proofs.Turns.{end-most}
 

@@ -19,12 +19,12 @@ use Rattle.grammar.specs.Record.{Offsets, Told, untold, told, width, height}
 use Rattle.grammar.specs.Picture.{topEnd}
 use Rattle.control.specs.Chain.{controlAt}
 use Rattle.control.specs.Answers.{spuOf, chainAnswer, controlAnswer}
-use Rattle.control.specs.Fill.{unitWords}
+use Rattle.bands.specs.Fill.{unitWords}
 use Rattle.control.specs.declared.Spu.{Spu}
 use Rattle.control.specs.declared.ControlAnswer.the-variants as control-answer
-use Rattle.control.proofs.Fill.{control-is}
+use Rattle.bands.proofs.Fill.{control-is}
 use Rattle.rle.specs.Answers.{fieldCounts, fieldAnswer}
-use Rattle.rle.specs.Fields.{fieldsAt, FieldsDecoded}
+use Rattle.fields.specs.Fields.{fieldsAt, FieldsDecoded}
 use Rattle.rle.specs.declared.Counts.{Counts}
 use Rattle.rle.specs.declared.FieldAnswer.{FieldAnswer}
 use Rattle.rle.specs.declared.FieldAnswer.the-variants as field-answer

@@ -1,11 +1,12 @@
 // A whole unit: its control blocks, the rows of its two fields in the index map, and its bands as words (docs/FORMAT.md, sections 3 to 5).
 use control::ControlAnswer;
 use control::Spu;
+use fields::Span;
 use outcome::NO_TOP_FIELD;
 use outcome::SHORT_PIXELS;
 use outcome::SHORT_WORDS;
+use outcome::word_of;
 use rle::FieldAnswer;
-use rle::Span;
 ghost use mathlib.Core.Path.{_≡_};
 ghost use Prim.Native.Nat.{_≤_, _<_, _-_, _+_, _*_};
 ghost use mathlib.Core.List.{List};
@@ -16,7 +17,7 @@ ghost use Rattle.grammar.specs.Picture.{topEnd};
 ghost use Rattle.spu.specs.Unit.{offsetsOf};
 ghost use Rattle.outcome.specs.Outcome.{ok, IsOk};
 ghost use lib.Seq.{sets};
-ghost use Rattle.control.specs.Fill.{unitWords};
+ghost use Rattle.bands.specs.Fill.{unitWords};
 ghost use Rattle.control.specs.Chain.{controlAt};
 ghost use Rattle.control.specs.Answers.{spuOf};
 ghost use Rattle.rle.specs.Answers.{fieldAnswer};
@@ -29,12 +30,6 @@ pub enum SpuAnswer {
     Shows(Spu),
     // The number of the refusal.
     Refused(u8),
-}
-
-fn word_of(a: u8, b: u8) -> usize
-    ensures { λ r. ⌜ r ≡ a * 256 + b ⌝ }
-{
-    a as usize * 256 + b as usize
 }
 
 // The byte before which the top field ends.
@@ -109,7 +104,7 @@ pub fn measure_rows(unit: &[u8], spu: Spu) -> FieldAnswer
     if l.end <= l.top {
         return FieldAnswer::Refused(NO_TOP_FIELD);
     }
-    rle::measure_fields(
+    fields::measure_fields(
         unit,
         Span {
             from: l.top,
@@ -135,7 +130,7 @@ pub fn decode_rows(unit: &[u8], spu: Spu, pixels: &mut [u8]) -> FieldAnswer
     if l.end <= l.top {
         return FieldAnswer::Refused(NO_TOP_FIELD);
     }
-    rle::decode_rle_fields(
+    fields::decode_rle_fields(
         unit,
         Span {
             from: l.top,
@@ -181,7 +176,7 @@ fn store_bands(unit: &[u8], count: usize, words: &mut [u16])
     ensures { λ _. ⌜ now (words .exit) ≡ sets (now (words .entry)) 0 (unitWords (now (unit .entry))) ⌝ }
 {
     if 0 < count {
-        control::fill_bands(unit, words);
+        bands::fill_bands(unit, words);
     }
 }
 

@@ -13,10 +13,9 @@ use Rattle.grammar.specs.Control.{Order, forced-start, start, stop, selectors, 
 use Rattle.grammar.specs.Record.{Told, untold, tell, tellBlock, tellChain, told, width, height}
 use Rattle.grammar.specs.Pixels.{rowPixels, indexMap}
 use Rattle.grammar.specs.Canvas.{orOwn, ownLook, toldLook, lineBytes, canvasBytes}
-use Rattle.chg_colcon.specs.Claim.{Counted}
-use Rattle.chg_colcon.specs.Look.{lookWords}
-use Rattle.chg_colcon.proofs.Look.{look-listed, bands-counted, counted-join}
-use Rattle.rle.proofs.Weave.{row-length}
+use Rattle.look.specs.Look.{Counted}
+use Rattle.look.proofs.Look.{look-listed, bands-counted, counted-join}
+use Rattle.fields.proofs.Weave.{row-length}
 use Rattle.vobsub.specs.Paint.{wordLook, mapCanvas}
 
 -- ---- Every band that is told has as many entries as its header says

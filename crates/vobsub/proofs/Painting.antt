@@ -14,10 +14,10 @@ use borrow.Author.Tests.{eq-eqb, ne-eqb}
 use Rattle.outcome.proofs.Laws.{sets-append}
 use Rattle.grammar.specs.Look.{Look}
 use Rattle.grammar.specs.Canvas.{nibbleOf, coloured, pixel, orOwn, lineBytes}
-use Rattle.chg_colcon.specs.Look.{told, lookWords, spansLine}
-use Rattle.chg_colcon.specs.declared.LookAnswer.{LookAnswer}
-use Rattle.chg_colcon.specs.declared.LookAnswer.the-variants as look-answer
-use Rattle.chg_colcon.proofs.Look.{look-unspanned}
+use Rattle.look.specs.Look.{told, lookWords, spansLine}
+use Rattle.look.specs.declared.LookAnswer.{LookAnswer}
+use Rattle.look.specs.declared.LookAnswer.the-variants as look-answer
+use Rattle.look.proofs.Look.{look-unspanned}
 use Rattle.vobsub.specs.Paint.{lookIs, wordLook, fourColours, tableLine, mapCanvas}
 
 -- ---- A pixel

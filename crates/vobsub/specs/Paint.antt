@@ -5,7 +5,7 @@ use mathlib.Core.List.{List, [], _∷_, _++_}
 use lib.ListN.{getD, take, drop}
 use Rattle.grammar.specs.Look.{Look}
 use Rattle.grammar.specs.Canvas.{pixel, orOwn, lineBytes}
-use Rattle.chg_colcon.specs.Look.{lookWords}
+use Rattle.look.specs.Look.{lookWords}
 use Rattle.vobsub.specs.declared.Four.{Four}
 
 abbrev pub lookIs : ℕ → ℕ → Look

@@ -1,8 +1,8 @@
 // The one call, from index text, file and cue number to a cue's canvas, with painting inside it (docs/FORMAT.md, section 6).
-use chg_colcon::LookAnswer;
 use control::ControlAnswer;
 use control::Spu;
 use idx::CueAnswer;
+use look::LookAnswer;
 use outcome::SHORT_CANVAS;
 use outcome::SHORT_PIXELS;
 use outcome::SHORT_WORDS;
@@ -15,7 +15,7 @@ ghost use Prim.Native.Nat.{ℕ, _+_, _*_, _≤_, _<_, min};
 ghost use lib.ListN.{length};
 ghost use lib.Seq.{sets};
 ghost use Rattle.outcome.specs.Outcome.{ok};
-ghost use Rattle.chg_colcon.specs.Look.{spansLine};
+ghost use Rattle.look.specs.Look.{spansLine};
 ghost use Rattle.control.specs.Answers.{spuOf};
 ghost use Rattle.control.specs.Chain.{controlAt};
 ghost use Rattle.grammar.specs.Control.{Block};
@@ -135,7 +135,7 @@ fn paint_plain(colours: [u8; 16], row: &[u8], canvas: &mut [u8], at: usize)
 fn look_at(words: &[u16], selectors: u16, alphas: u16, x: u16, y: u16) -> Four
     ensures { λ r. ⌜ sameLook r (wordLook (now (words .entry)) (lookIs selectors alphas) x y) ⌝ }
 {
-    match chg_colcon::chg_colcon_lookup(words, x, y) {
+    match look::chg_colcon_lookup(words, x, y) {
         LookAnswer::Found {
             selectors: s,
             alphas: a,
@@ -191,7 +191,7 @@ fn paint_line(
     requires { ⌜ (at + 4 * length (now row) ≤ length (now canvas)) × (x + length (now row) ≤ 65536) × (colours ≡ fourColours palette (lookIs selectors alphas)) ⌝ }
     ensures { λ _. ⌜ now (canvas .exit) ≡ sets (now (canvas .entry)) at (lineBytes palette (wordLook (now (words .entry)) (lookIs selectors alphas)) x y (now (row .entry))) ⌝ }
 {
-    if chg_colcon::spans_line(words, y) {
+    if look::spans_line(words, y) {
         paint_under(palette, selectors, alphas, words, x, y, row, canvas, at);
         return;
     }

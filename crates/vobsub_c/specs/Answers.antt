@@ -10,7 +10,7 @@ use Rattle.chg_colcon.specs.Answers.{countOf, stored}
 use Rattle.chg_colcon.specs.declared.BandAnswer.{BandAnswer}
 use Rattle.chg_colcon.specs.declared.BandAnswer.the-variants as band-answer
 use Rattle.grammar.specs.Packets.{subpicture}
-use Rattle.ps.specs.Packets.{bodyAt}
+use Rattle.packets.specs.Packets.{bodyAt}
 use Rattle.ps.specs.Unit.{unitAt}
 use Rattle.ps.specs.Answers.{unitGiven, unitStored}
 use Rattle.ps.specs.declared.UnitAnswer.{UnitAnswer}

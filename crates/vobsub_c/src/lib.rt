@@ -65,7 +65,7 @@ pub extern "C" fn vobsub_parse_pes_body(pes: &[u8], body: &mut usize) -> u8
     ensures { λ r. ⌜ BodyFound (now (pes .entry)) (now (body .entry)) r (now (body .exit)) ⌝ }
 {
     let mut found = false;
-    let rest = ps::parse_pes_body(pes, &mut found);
+    let rest = packets::parse_pes_body(pes, &mut found);
     if found {
         *body = pes.len() - rest.len();
         return 0;

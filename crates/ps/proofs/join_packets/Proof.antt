@@ -9,7 +9,7 @@ use Rattle.outcome.specs.Outcome.{ok}
 use Rattle.outcome.proofs.Laws.{ok-injective}
 use Rattle.grammar.specs.Packets.{Packet, packets, unitOf, joined, subpicture}
 use Rattle.ps.specs.Packets.{packetsAt}
-use Rattle.ps.proofs.Read.{keeps-told, passes-told, refused-told}
+use Rattle.packets.proofs.Read.{keeps-told, passes-told, refused-told}
 use Rattle.ps.proofs.Join.{Joining, joining-starts, joining-ends, joining-refused, joining-passes, joining-goes, unit-within}
 use Rattle.ps.proofs.join_packets.Statement.{statement}
 use Rattle.ps.proofs.join_packets.Tie as tie
@@ -48,26 +48,26 @@ loop-again c = λ ps q r. joining-passes (c .before .before .before .before .bef
 enum-known-a : tie.Need-enum-known-a Inv-loop μ-loop
 enum-known-a c = search needs
 
-sub-least : tie.Need-sub-least Inv-loop μ-loop
-sub-least c = let u = keeps-told (c .before .before .before .before .before .before .before .before .args .file .now) (c .before .before .before .before .before .loop .at) _ (c .before .before .before .read-packet .ensures) _ _ (c .before .a .given .1) in u .upto
+sub-lesser : tie.Need-sub-lesser Inv-loop μ-loop
+sub-lesser c = let u = keeps-told (c .before .before .before .before .before .before .before .before .args .file .now) (c .before .before .before .before .before .loop .at) _ (c .before .before .before .read-packet .ensures) _ _ (c .before .a .given .1) in u .upto
 
-sub-least-2 : tie.Need-sub-least-2 Inv-loop μ-loop
-sub-least-2 c = omega (arith, c .before .before .before .before .loop-test .taken)
+sub-lesser-2 : tie.Need-sub-lesser-2 Inv-loop μ-loop
+sub-lesser-2 c = omega (arith, c .before .before .before .before .loop-test .taken)
 
-least-requires : tie.Need-least-requires Inv-loop μ-loop
-least-requires c κs = search needs
+lesser-requires : tie.Need-lesser-requires Inv-loop μ-loop
+lesser-requires c κs = search needs
 
 copy-requires : tie.Need-copy-requires Inv-loop μ-loop
-copy-requires c κs = let u = keeps-told (c .before .before .before .before .before .before .before .before .before .before .args .file .now) (c .before .before .before .before .before .before .before .loop .at) _ (c .before .before .before .before .before .read-packet .ensures) _ _ (c .before .before .before .a .given .1) in let i = u .inside in let o = u .upto in let z = c .before .before .before .before .before .before .before .loop .inv (c .before .before .before .before .before .before .before .before .before .before .pre .0) (c .before .before .before .before .before .before .before .before .before .before .pre .1) (c .before .before .before .before .before .before .before .before .before .before .pre .2) .size in let p = c .before .before .before .before .before .before .before .before .before .before .pre .3 in let m = c .before .least .ensures in (omega (arith, c .before .before .before .before .before .before .loop-test .taken), omega (arith, c .before .before .before .before .before .before .loop-test .taken))
+copy-requires c κs = let u = keeps-told (c .before .before .before .before .before .before .before .before .before .before .args .file .now) (c .before .before .before .before .before .before .before .loop .at) _ (c .before .before .before .before .before .read-packet .ensures) _ _ (c .before .before .before .a .given .1) in let i = u .inside in let o = u .upto in let z = c .before .before .before .before .before .before .before .loop .inv (c .before .before .before .before .before .before .before .before .before .before .pre .0) (c .before .before .before .before .before .before .before .before .before .before .pre .1) (c .before .before .before .before .before .before .before .before .before .before .pre .2) .size in let p = c .before .before .before .before .before .before .before .before .before .before .pre .3 in let m = c .before .lesser .ensures in (omega (arith, c .before .before .before .before .before .before .loop-test .taken), omega (arith, c .before .before .before .before .before .before .loop-test .taken))
 
 add-have : tie.Need-add-have Inv-loop μ-loop
-add-have c = let m = c .before .before .before .before .least .ensures in let p = c .before .before .before .before .before .before .before .before .before .before .before .before .before .pre .3 in omega (arith, c .before .before .before .before .before .before .before .before .before .loop-test .taken, c .before .before .before .before .before .before .before .before .before .before .before .before .before .fits .t)
+add-have c = let m = c .before .before .before .before .lesser .ensures in let p = c .before .before .before .before .before .before .before .before .before .before .before .before .before .pre .3 in omega (arith, c .before .before .before .before .before .before .before .before .before .loop-test .taken, c .before .before .before .before .before .before .before .before .before .before .before .before .before .fits .t)
 
 loop-less-2 : tie.Need-loop-less-2 Inv-loop μ-loop
 loop-less-2 c = let u = keeps-told (c .before .before .before .before .before .before .before .before .before .before .before .before .before .args .file .now) (c .before .before .before .before .before .before .before .before .before .before .loop .at) _ (c .before .before .before .before .before .before .before .before .read-packet .ensures) _ _ (c .before .before .before .before .before .before .a .given .1) in let l = u .after in let m = u .inside in let o = u .upto in omega arith
 
 loop-again-2 : tie.Need-loop-again-2 Inv-loop μ-loop
-loop-again-2 c = λ ps q r. joining-goes (c .before .before .before .before .before .before .before .before .before .before .before .before .before .args .file .now) (joined ps) (c .before .before .before .before .before .before .before .before .before .before .before .before .before .args .t) (omega (arith, r, unit-within (c .before .before .before .before .before .before .before .before .before .before .before .before .before .args .file .now) (c .before .before .before .before .before .before .before .before .before .before .before .before .before .args .from) ps q)) _ _ _ _ (c .before .before .before .before .before .before .before .before .before .before .loop .inv ps q r) (c .before .before .before .before .before .before .before .before .before .loop-test .taken) _ _ (keeps-told (c .before .before .before .before .before .before .before .before .before .before .before .before .before .args .file .now) (c .before .before .before .before .before .before .before .before .before .before .loop .at) _ (c .before .before .before .before .before .before .before .before .read-packet .ensures) _ _ (c .before .before .before .before .before .before .a .given .1)) _ (c .before .before .before .before .least .ensures) _ (c .before .before .copy .ensures)
+loop-again-2 c = λ ps q r. joining-goes (c .before .before .before .before .before .before .before .before .before .before .before .before .before .args .file .now) (joined ps) (c .before .before .before .before .before .before .before .before .before .before .before .before .before .args .t) (omega (arith, r, unit-within (c .before .before .before .before .before .before .before .before .before .before .before .before .before .args .file .now) (c .before .before .before .before .before .before .before .before .before .before .before .before .before .args .from) ps q)) _ _ _ _ (c .before .before .before .before .before .before .before .before .before .before .loop .inv ps q r) (c .before .before .before .before .before .before .before .before .before .loop-test .taken) _ _ (keeps-told (c .before .before .before .before .before .before .before .before .before .before .before .before .before .args .file .now) (c .before .before .before .before .before .before .before .before .before .before .loop .at) _ (c .before .before .before .before .before .before .before .before .read-packet .ensures) _ _ (c .before .before .before .before .before .before .a .given .1)) _ (c .before .before .before .before .lesser .ensures) _ (c .before .before .copy .ensures)
 
 same-length-2 : tie.Need-same-length-2 Inv-loop μ-loop
 same-length-2 c = c .before .loop .inv (c .before .before .before .before .pre .0) (c .before .before .before .before .pre .1) (c .before .before .before .before .pre .2) .size
@@ -90,9 +90,9 @@ join-packets-spec =
     loop-less
     loop-again
     enum-known-a
-    sub-least
-    sub-least-2
-    least-requires
+    sub-lesser
+    sub-lesser-2
+    lesser-requires
     copy-requires
     add-have
     loop-less-2

@@ -6,7 +6,7 @@ use native.Mathlib.Omega.{arith}
 use denote.Ref.{now}
 use lib.ListN.{length}
 use Rattle.outcome.specs.Outcome.{IsOk, listed}
-use Rattle.rle.specs.Codes.{fieldAt}
+use Rattle.codes.specs.Codes.{fieldAt}
 use Rattle.rle.specs.Field.{paintField}
 use Rattle.rle.proofs.Turns.{mul-pred, row-there, row-goes-inside, field-there, field-paint, field-paint-end, blank-kept}
 use Rattle.rle.proofs.fill_field.Statement.{statement}

@@ -10,9 +10,10 @@ use lib.ListN.{length}
 use lib.Seq.{sets}
 use Rattle.grammar.specs.Rows.{code, afterCodes}
 use Rattle.grammar.specs.Pixels.{rowPixels}
-use Rattle.rle.specs.Codes.{rowAt}
-use Rattle.rle.proofs.Laws.{paints-le, paints-pos}
-use Rattle.rle.proofs.Turns.{Coded, coded, uncoded, row-short, ok-more, after-more, paint-more, paint-end, after-end}
+use Rattle.codes.specs.Codes.{rowAt}
+use Rattle.codes.proofs.Laws.{paints-le, paints-pos}
+use Rattle.codes.proofs.Turns.{Coded, coded, uncoded}
+use Rattle.rle.proofs.Turns.{row-short, ok-more, after-more, paint-more, paint-end, after-end}
 use Rattle.rle.proofs.fill_row.Statement.{statement}
 use Rattle.rle.proofs.fill_row.Tie as tie
 

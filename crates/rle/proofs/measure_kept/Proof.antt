@@ -9,7 +9,7 @@ use lib.ListN.{length}
 use lib.Seq.{sets}
 use Rattle.outcome.specs.Outcome.{Res, listed, IsOk}
 use Rattle.grammar.specs.Rows.{Code}
-use Rattle.rle.specs.Codes.{fieldAt}
+use Rattle.codes.specs.Codes.{fieldAt}
 use Rattle.rle.specs.Kept.{keptAll}
 use Rattle.rle.specs.Answers.{AtMost, fieldAnswer, plusField, measured}
 use Rattle.rle.specs.declared.Counts.{Counts}

@@ -11,12 +11,13 @@ use lib.ListN.{length}
 use lib.Seq.{sets}
 use Rattle.outcome.specs.Outcome.{Res, listed, IsOk}
 use Rattle.grammar.specs.Rows.{Code, code}
-use Rattle.rle.specs.Codes.{rowAt}
+use Rattle.codes.specs.Codes.{rowAt}
 use Rattle.rle.specs.Kept.{keptRow}
 use Rattle.rle.specs.Answers.{AtMost, rowAnswer}
 use Rattle.rle.specs.declared.Counts.{Counts}
-use Rattle.rle.proofs.Laws.{paints-le, paints-pos}
-use Rattle.rle.proofs.Turns.{Coded, coded, uncoded, plusRow, row-whole, row-more, row-short, row-end, ok-more, at-most-counted}
+use Rattle.codes.proofs.Laws.{paints-le, paints-pos}
+use Rattle.codes.proofs.Turns.{Coded, coded, uncoded}
+use Rattle.rle.proofs.Turns.{plusRow, row-whole, row-more, row-short, row-end, ok-more, at-most-counted}
 use Rattle.rle.proofs.Kept.{keep-more, keep-end}
 use Rattle.rle.proofs.measure_row.Statement.{statement}
 use Rattle.rle.proofs.measure_row.Tie as tie

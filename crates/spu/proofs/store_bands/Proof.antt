@@ -1,6 +1,6 @@
 -- `spu::store_bands` meets its contract: where there are no words, storing none changes nothing. Assumes nothing.
 use borrow.Author.Needs.{needs}
-use Rattle.control.specs.Fill.{unitWords}
+use Rattle.bands.specs.Fill.{unitWords}
 use Rattle.spu.proofs.Turns.{no-words}
 use Rattle.spu.proofs.store_bands.Statement.{statement}
 use Rattle.spu.proofs.store_bands.Tie as tie

@@ -8,10 +8,10 @@ use lib.ListN.{length, length-drop}
 use native.Mathlib.Omega.{arith}
 use borrow.Author.Needs.{needs}
 use Rattle.outcome.specs.Outcome.{Res, ok, refuse, no-unit}
-use Rattle.ps.specs.Packets.{bodyAt}
-use Rattle.ps.specs.Answers.{bodyRest, bodyFound}
-use Rattle.ps.proofs.Laws.{body-iff}
-use Rattle.ps.proofs.Shift.{body-refuses}
+use Rattle.packets.specs.Packets.{bodyAt}
+use Rattle.packets.specs.Answers.{bodyRest, bodyFound}
+use Rattle.packets.proofs.Laws.{body-iff}
+use Rattle.packets.proofs.Shift.{body-refuses}
 use Rattle.vobsub_c.specs.Answers.{bodyRefusal, bodyPlace, BodyFound}
 use Rattle.vobsub_c.proofs.vobsub_parse_pes_body.Statement.{statement}
 use Rattle.vobsub_c.proofs.vobsub_parse_pes_body.Tie as tie

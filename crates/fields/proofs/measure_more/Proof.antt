@@ -1,0 +1,37 @@
+-- `fields::measure_more` meets its contract: the sum fits, since a field counts no more codes than pixels. Assumes nothing.
+use native.Mathlib.Omega.{arith}
+use mathlib.Core.Path.{sym, _∙_}
+use borrow.Author.Needs.{needs}
+use Rattle.fields.proofs.Both.{field-most, more-rows, more-refused}
+use Rattle.fields.proofs.measure_more.Statement.{statement}
+use Rattle.fields.proofs.measure_more.Tie as tie
+
+measure-field-requires : tie.Need-measure-field-requires
+measure-field-requires c κs = search needs
+
+enum-known-more : tie.Need-enum-known-more
+enum-known-more c = search needs
+
+plus-counts-requires : tie.Need-plus-counts-requires
+plus-counts-requires c κs =
+    omega (arith, c .before .before .before .before .before .pre, field-most _ _ _ _ _ _ (sym (c .before .more .given .1) ∙ c .before .before .before .measure-field .ensures))
+
+enum-known-number : tie.Need-enum-known-number
+enum-known-number c = search needs
+
+returns : tie.Need-returns
+returns c = more-rows _ _ _ _ (sym (c .before .before .more .given .1) ∙ c .before .before .before .before .measure-field .ensures) (c .plus-counts .ensures)
+
+returns-2 : tie.Need-returns-2
+returns-2 c = more-refused _ _ _ (sym (c .before .number .given .1) ∙ c .before .before .before .measure-field .ensures)
+
+pub measure-more-spec : {M : Type 1} → statement M
+measure-more-spec =
+    tie.close
+    (tie.spec
+    measure-field-requires
+    enum-known-more
+    plus-counts-requires
+    enum-known-number
+    returns
+    returns-2)

@@ -1,0 +1,4 @@
+pub mod Laws
+pub mod Body
+pub mod Shift
+pub mod Read
