@@ -27,6 +27,9 @@ fn now() -> f64 {
 }
 
 struct Lent {
+    starts: Vec<i64>,
+    positions: Vec<u64>,
+    palette: [u8; port::COLOURS],
     scratch: Vec<u8>,
     map: Vec<u8>,
     words: Vec<u16>,
@@ -120,6 +123,25 @@ fn extract(name: &str, title: &Title, lent: &mut Lent) {
     );
 }
 
+// The whole text with both cue buffers lent, and one cue of it, its last but one.
+fn index(title: &Title, lent: &mut Lent) {
+    let text = title.text.as_str();
+    let cues = title.positions.len();
+    let mut original = || {
+        black_box(original::parse_idx(black_box(text)).is_ok());
+    };
+    let mut numbers = [0; port::INDEX_NUMBERS];
+    beside(&format!("{}, the index text of {cues} cues", title.name), &mut original, &mut || {
+        let refusal = port::parse_idx(black_box(text.as_bytes()), &mut lent.starts, &mut lent.positions, &mut lent.palette, &mut numbers);
+        assert_eq!((refusal, numbers[port::CUES]), (0, cues));
+    });
+    let (mut start, mut numbers) = (0, [0; port::CUE_NUMBERS]);
+    beside(&format!("{}, one cue of the index text", title.name), &mut original, &mut || {
+        assert_eq!(port::pick_cue(black_box(text.as_bytes()), cues - 2, &mut start, &mut lent.palette, &mut numbers), 0);
+        black_box((start, numbers));
+    });
+}
+
 // The layers alone: the payload of the long band list, and one field of the codes of one nibble.
 fn layers(lent: &mut Lent) {
     let unit = many_bands();
@@ -191,9 +213,10 @@ fn one_nibble() -> Vec<u8> {
 }
 
 fn main() {
-    let mut lent = Lent { scratch: vec![0; 65536], map: vec![0; 1 << 24], words: vec![0; 1 << 16], numbers: [0; port::NUMBERS] };
+    let mut lent = Lent { starts: vec![0; 2000], positions: vec![0; 2000], palette: [0; port::COLOURS], scratch: vec![0; 65536], map: vec![0; 1 << 24], words: vec![0; 1 << 16], numbers: [0; port::NUMBERS] };
     for title in titles().iter().filter(|t| t.name.starts_with("bench")) {
         let units: Vec<Vec<u8>> = title.positions.iter().map(|&p| original::extract_spu(&title.file[p..]).expect("a unit")).collect();
+        index(title, &mut lent);
         extract(&format!("{}, {} units from packets", title.name, units.len()), title, &mut lent);
         decode(&format!("{}, {} units to record, map and words", title.name, units.len()), &units, &mut lent);
     }
