@@ -311,7 +311,7 @@ fn compare_cue(side: &Side, q: &Request) -> Outcome {
                     Some((next.expect("a next cue") as i128 - theirs as i128).clamp(0, i64::MAX as i128) as i64)
                 }
             };
-            o.both = refusal == 0;
+            o.both = refusal == 0 && o.panicked.is_none();
             o.must(refusal == 0, || format!("the original has cue {cue}; the port says {refusal}"));
             o.must(start == theirs, || format!("the start {theirs}; the port says {start}"));
             let asked = [position, lasts.is_some() as u64, lasts.unwrap_or(0) as u64, index.has_palette as u64];
