@@ -145,15 +145,16 @@ fn index(title: &Title, lent: &mut Lent) {
 // The layers alone: the payload of the long band list, and one field of the codes of one nibble.
 fn layers(lent: &mut Lent) {
     let unit = many_bands();
-    let payload = &unit[11..];
-    let mut count = 0;
-    beside(
-        "16,380 bands, the payload alone",
-        &mut || {
-            black_box(original::parse_chg_colcon_payload(black_box(payload)).is_ok());
-        },
-        &mut || assert_eq!(port::bands(black_box(payload), &mut lent.words, 0, &mut count), 0),
-    );
+    for (name, payload) in [("16,380 bands", unit[11..].to_vec()), ("6,552 bands of one entry", bands_of(1)), ("697 bands of 15 entries", bands_of(15))] {
+        let mut count = 0;
+        beside(
+            &format!("{name}, the payload alone"),
+            &mut || {
+                black_box(original::parse_chg_colcon_payload(black_box(&payload)).is_ok());
+            },
+            &mut || assert_eq!(port::bands(black_box(&payload), &mut lent.words, 0, &mut count), 0),
+        );
+    }
     let unit = one_nibble();
     let (field, width, height) = (&unit[4..65518], 4096, 62);
     let mut theirs = vec![0; width * height];
@@ -196,6 +197,20 @@ fn many_bands() -> Vec<u8> {
     put(&mut unit, size);
     unit.resize(9 + size, 0);
     headed(unit, 4)
+}
+
+// A payload with as many bands of that many entries as a unit holds.
+fn bands_of(entries: usize) -> Vec<u8> {
+    let mut payload = Vec::new();
+    while payload.len() + 4 + 6 * entries <= 65520 {
+        payload.extend([0, 0]);
+        put(&mut payload, entries << 12);
+        for i in 0..entries {
+            put(&mut payload, i);
+            payload.extend([0x01, 0x23, 0x0F, 0xFF]);
+        }
+    }
+    payload
 }
 
 // Codes of one nibble and one pixel, as many as a unit holds; both fields read the same bytes.
