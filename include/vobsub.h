@@ -64,6 +64,47 @@ uint8_t vobsub_parse_and_decode_spu(const uint8_t *unit, size_t unit_len,
                                     uint16_t *words, size_t words_len,
                                     size_t numbers[VOBSUB_NUMBERS]);
 
+/* Places of the numbers of an index text: the size, 0 where none is given, whether a palette is given (1) or none (0), how many cues there are. */
+enum vobsub_index_number {
+    VOBSUB_WIDTH, VOBSUB_HEIGHT,
+    VOBSUB_HAS_PALETTE,
+    VOBSUB_CUES,
+    VOBSUB_INDEX_NUMBERS
+};
+
+/* Bytes of a palette: red, green and blue of 16 entries, in turn. */
+enum { VOBSUB_PALETTE = 48 };
+
+/* Reads an index text, the text_len bytes of a .idx file. The start of each cue, in microseconds, goes to the front of starts, which has
+   starts_len numbers, and its position in the file to the front of positions, which has positions_len numbers; palette has VOBSUB_PALETTE
+   bytes, and gets the palette, black where no entry is given; numbers has VOBSUB_INDEX_NUMBERS numbers. palette and numbers are not null, and
+   the five regions do not overlap. Of starts and positions as many are written as there are cues; on a refusal (1 to 10) all four are as they
+   were. */
+uint8_t vobsub_parse_idx(const uint8_t *text, size_t text_len,
+                         int64_t *starts, size_t starts_len,
+                         uint64_t *positions, size_t positions_len,
+                         uint8_t palette[VOBSUB_PALETTE],
+                         size_t numbers[VOBSUB_INDEX_NUMBERS]);
+
+/* Places of the numbers of a cue: its position in the file, whether another cue follows (1) or none (0), the microseconds up to that one, 0
+   where none follows, and whether the text gives a palette. */
+enum vobsub_cue_number {
+    VOBSUB_POSITION,
+    VOBSUB_HAS_DURATION, VOBSUB_DURATION,
+    VOBSUB_CUE_HAS_PALETTE,
+    VOBSUB_CUE_NUMBERS
+};
+
+/* Finds one cue of an index text, the text_len bytes of a .idx file; cues are numbered from 0, and cue may be any number. *start is set to its
+   start in microseconds; palette has VOBSUB_PALETTE bytes, and gets the text's palette; numbers has VOBSUB_CUE_NUMBERS numbers, and gets those
+   of the cue. start, palette and numbers are not null, and the four regions do not overlap. Every line is checked all the same; on a refusal
+   (1 to 9, 11) *start, palette and numbers are as they were. */
+uint8_t vobsub_pick_cue(const uint8_t *text, size_t text_len,
+                        size_t cue,
+                        int64_t *start,
+                        uint8_t palette[VOBSUB_PALETTE],
+                        uint64_t numbers[VOBSUB_CUE_NUMBERS]);
+
 /* Writes a picture of that width and height as a unit into the front of out, which has out_len bytes. indices has indices_len bytes, the
    colour numbers 0 to 3 of its pixels, row after row; width and height may be any numbers. *length is set to the unit's length. length is not
    null, and the three regions do not overlap. On a refusal (27 to 31) out and *length are as they were, and after a unit out past its

@@ -75,9 +75,15 @@ pub mod adapter {
         Ok(crate::side::Index { size: idx.size, palette: idx.palette_rgb.concat(), has_palette: idx.has_palette, cues: idx.cues })
     }
 
+    // of each cue the original makes a packet, with its duration; a file of one byte has both cues at its front
+    fn duration(start: i64, next: Option<i64>) -> Option<i64> {
+        let cues = std::iter::once(start).chain(next).map(|s| (s, 0)).collect();
+        build_packets(&VobSubIdx::default().with_cues(cues), &[0]).pop_front().expect("a packet").duration
+    }
+
     fn positions(text: &str) -> Vec<usize> {
         parse_idx(text).map(|idx| idx.cues.iter().map(|c| c.1 as usize).collect()).unwrap_or_default()
     }
 
-    pub const SIDE: Side = Side { pes_body, spot, bands, field, unit, positions, index, write: build_demo_spu };
+    pub const SIDE: Side = Side { pes_body, spot, bands, field, unit, positions, index, duration, write: build_demo_spu };
 }

@@ -11,16 +11,18 @@ pub struct Request {
     pub n: [usize; 4],
 }
 
-// What real titles give: files cut from one cue to the next, and the units in them.
+// What real titles give: index texts, files cut from one cue to the next, and the units in them.
 pub struct World {
+    pub texts: Vec<String>,
     pub files: Vec<Vec<u8>>,
     pub units: Vec<Vec<u8>>,
 }
 
 impl World {
     pub fn new() -> World {
-        let mut world = World { files: Vec::new(), units: Vec::new() };
-        for Title { file, positions, .. } in titles() {
+        let mut world = World { texts: Vec::new(), files: Vec::new(), units: Vec::new() };
+        for Title { text, file, positions, .. } in titles() {
+            world.texts.push(text);
             for (i, &from) in positions.iter().enumerate() {
                 let to = positions.get(i + 1).copied().unwrap_or(file.len()).min(file.len());
                 if from < to {
@@ -88,6 +90,7 @@ pub fn tried<T>(f: impl FnOnce() -> T) -> Result<T, String> {
 pub const BYTE: u8 = 0xA5;
 pub const WORD: u16 = 0xA5C3;
 pub const NUMBER: usize = 0xA5C3_5A3C_0FF0_9669;
+pub const START: i64 = 0x5AC3_5A3C_0FF0_9669;
 
 // A sum over numbers in turn, for the fixed list, as crates/replay makes it.
 #[derive(Clone, Copy)]
@@ -102,6 +105,12 @@ impl Default for Sum {
 impl Sum {
     pub fn add(&mut self, v: usize) {
         self.0 = (self.0 * 31 + v as u64 % 1_000_003) % 4_294_967_291;
+    }
+
+    // The sign, and how far it is from 0 or from -1.
+    pub fn signed(&mut self, v: i64) {
+        self.add((v < 0) as usize);
+        self.add(if v < 0 { -1 - v } else { v } as usize);
     }
 
     pub fn all<T: Copy + Into<u64>>(&mut self, vs: &[T]) {

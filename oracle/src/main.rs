@@ -117,14 +117,11 @@ fn main() {
     // a panic of the original is an answer, and is counted
     std::panic::set_hook(Box::new(|_| {}));
     let world = World::new();
-    let classes: Vec<Class> = classes::all().into_iter().chain(classes::planned().into_iter().filter(|_| one.is_some())).filter(|c| one.as_deref().is_none_or(|name| name == c.name)).collect();
+    let classes: Vec<Class> = classes::all().into_iter().filter(|c| one.as_deref().is_none_or(|name| name == c.name)).collect();
     if classes.is_empty() {
         usage();
     }
     println!("seed {seed}, {} real units", world.units.len());
-    for class in classes::planned().iter().filter(|c| classes.iter().any(|d| d.name == c.name)) {
-        println!("{}: the port's side is still to come; the original alone is run, and nothing is compared", class.name);
-    }
     if mutants {
         std::process::exit(try_mutants(&world, &classes, seed) as i32);
     }
@@ -162,7 +159,7 @@ fn main() {
 // One request, and what both sides say.
 fn ask(words: &[String]) {
     let [class, bytes, numbers @ ..] = words else { usage() };
-    let Some(class) = classes::all().into_iter().chain(classes::planned()).find(|c| c.name == class) else { usage() };
+    let Some(class) = classes::all().into_iter().find(|c| c.name == class) else { usage() };
     let digits: Vec<u8> = bytes.bytes().filter(|&b| b != b'-').map(|b| (b as char).to_digit(16).unwrap_or_else(|| usage()) as u8).collect();
     let mut q = Request { bytes: digits.chunks(2).map(|p| p[0] << 4 | p.get(1).unwrap_or(&0)).collect(), n: [0; 4] };
     for (n, word) in q.n.iter_mut().zip(numbers) {

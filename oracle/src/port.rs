@@ -7,17 +7,18 @@ pub const STOP: usize = 9;
 pub const BAND_WORDS: usize = 14;
 pub const CODES: usize = 15;
 
-// What the port says of an index text; `untouched` where the cue buffers hold their pattern but for the cues.
-pub struct IndexAnswer {
-    pub refusal: u8,
-    pub index: crate::side::Index,
-    pub untouched: bool,
-}
-
-// Not exported yet.
-pub fn index(_text: &[u8], _room: usize) -> Option<IndexAnswer> {
-    None
-}
+// Places of the numbers of an index text, and of those of a cue.
+pub const INDEX_NUMBERS: usize = 4;
+pub const WIDTH: usize = 0;
+pub const HEIGHT: usize = 1;
+pub const COLOURED: usize = 2;
+pub const CUES: usize = 3;
+pub const CUE_NUMBERS: usize = 4;
+pub const POSITION: usize = 0;
+pub const LASTS: usize = 1;
+pub const DURATION: usize = 2;
+pub const CUE_COLOURED: usize = 3;
+pub const COLOURS: usize = 48;
 
 unsafe extern "C" {
     fn vobsub_parse_pes_body(pes: *const u8, pes_len: usize, body: *mut usize) -> u8;
@@ -25,6 +26,8 @@ unsafe extern "C" {
     fn vobsub_parse_chg_colcon_payload(payload: *const u8, payload_len: usize, words: *mut u16, words_len: usize, at: usize, count: *mut usize) -> u8;
     fn vobsub_decode_rle_field(field: *const u8, field_len: usize, width: usize, height: usize, start_row: usize, pixels: *mut u8, pixels_len: usize, codes: *mut usize) -> u8;
     fn vobsub_parse_and_decode_spu(unit: *const u8, unit_len: usize, pixels: *mut u8, pixels_len: usize, words: *mut u16, words_len: usize, numbers: *mut usize) -> u8;
+    fn vobsub_parse_idx(text: *const u8, text_len: usize, starts: *mut i64, starts_len: usize, positions: *mut u64, positions_len: usize, palette: *mut u8, numbers: *mut usize) -> u8;
+    fn vobsub_pick_cue(text: *const u8, text_len: usize, cue: usize, start: *mut i64, palette: *mut u8, numbers: *mut u64) -> u8;
     fn vobsub_build_demo_spu(width: usize, height: usize, indices: *const u8, indices_len: usize, out: *mut u8, out_len: usize, length: *mut usize) -> u8;
 }
 
@@ -50,4 +53,12 @@ pub fn unit(unit: &[u8], pixels: &mut [u8], words: &mut [u16], numbers: &mut [us
 
 pub fn write(width: usize, height: usize, indices: &[u8], out: &mut [u8], length: &mut usize) -> u8 {
     unsafe { vobsub_build_demo_spu(width, height, indices.as_ptr(), indices.len(), out.as_mut_ptr(), out.len(), length) }
+}
+
+pub fn parse_idx(text: &[u8], starts: &mut [i64], positions: &mut [u64], palette: &mut [u8; COLOURS], numbers: &mut [usize; INDEX_NUMBERS]) -> u8 {
+    unsafe { vobsub_parse_idx(text.as_ptr(), text.len(), starts.as_mut_ptr(), starts.len(), positions.as_mut_ptr(), positions.len(), palette.as_mut_ptr(), numbers.as_mut_ptr()) }
+}
+
+pub fn pick_cue(text: &[u8], cue: usize, start: &mut i64, palette: &mut [u8; COLOURS], numbers: &mut [u64; CUE_NUMBERS]) -> u8 {
+    unsafe { vobsub_pick_cue(text.as_ptr(), text.len(), cue, start, palette.as_mut_ptr(), numbers.as_mut_ptr()) }
 }

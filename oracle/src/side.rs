@@ -21,7 +21,7 @@ pub struct Decoded {
 }
 
 // What an index text says: the size, the palette as red, green and blue of 16 entries, whether there is one, and start and position of each cue.
-#[derive(Debug, Default, PartialEq)]
+#[derive(Clone, Debug, Default, PartialEq)]
 pub struct Index {
     pub size: (u16, u16),
     pub palette: Vec<u8>,
@@ -38,6 +38,8 @@ pub struct Side {
     pub unit: fn(&[u8]) -> Result<Decoded, String>,
     pub positions: fn(&str) -> Vec<usize>,
     pub index: fn(&str) -> Result<Index, String>,
+    // The duration of a cue with this start, if another with that start follows it.
+    pub duration: fn(i64, Option<i64>) -> Option<i64>,
     pub write: fn(u16, u16, &[u8]) -> Vec<u8>,
 }
 

@@ -59,6 +59,10 @@ module _ (u : List ℕ) (L p : ℕ) (o : Order) (c : Change u L p o) (s : List �
   fits-all : stored s to ws ≡ ok (orderWords o)
   fits-all = stored-fits s to ws (orderWords o) (ap bandsOf part ∙ c .reads) room
 
+  -- what storing them asks for
+  pub change-known : IsOk (bandsOf s) × (to + length (listed (bandsOf s)) ≤ length ws)
+  change-known = rw (ap bandsOf part ∙ c .reads) (tt, room)
+
   pub change-count : (n : ℕ) (r : BandAnswer) (ws′ : List ℕ) → Stored s to ws r ws′ → r ≡ band-answer.Words n → n ≡ length (orderWords o)
   change-count n r ws′ q e = let z : band-answer.Words n ≡ band-answer.Words (0 + length (orderWords o)) = sym e ∙ q .answer ∙ ap (countOf 0) fits-all in let y : n ≡ 0 + length (orderWords o) = cc in omega arith
 

@@ -27,7 +27,7 @@ fn fill_change(unit: &[u8], end: usize, p: usize, words: &mut [u16], to: usize) 
 {
     let size = word_at(unit, p) as usize;
     let next = p + size;
-    match chg_colcon::parse_chg_colcon_payload(&unit[p + 2..next], words, to) {
+    match chg_colcon::store_words(&unit[p + 2..next], words, to) {
         BandAnswer::Words(n) => Place {
             at: next,
             to: to + n,

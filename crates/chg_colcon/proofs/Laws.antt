@@ -13,7 +13,7 @@ use Rattle.outcome.proofs.Laws.{sets-append}
 use lib.Seq.{sets, take-all, drop-drop, length-sets}
 use Rattle.grammar.specs.Bands.{Band, entryWords, bandWords}
 use Rattle.chg_colcon.specs.Bands.{wordOf, push3, header, headOf, entryOf, onHead, onEntry, bandsOf, entriesOf}
-use Rattle.chg_colcon.specs.Answers.{countOf, stored, Stored, pushes, restOf, lastOf, Part, Goes, ListRead}
+use Rattle.chg_colcon.specs.Answers.{countOf, stored, Stored, pushes, restOf, lastOf, Part, Goes, Ahead, ListRead}
 use Rattle.chg_colcon.specs.declared.Stop.{Stop}
 use Rattle.chg_colcon.specs.declared.Stop.the-variants as stop
 use Rattle.chg_colcon.specs.declared.BandAnswer.{BandAnswer}
@@ -185,6 +185,83 @@ part-join g h k a b c v w z p q =
     two (refuse n) = refl
     two (ok ws) = ap ok (sym (append-assoc (p .ws) (q .ws) ws))
 
+-- ---- Read ahead in a loop
+
+ahead-starts : (s : List ℕ) (g h : Res (List ℕ)) (at : ℕ) (v : List ℕ) → g ≡ h → Ahead s g h at v 0 at v
+ahead-starts s g h at v e = record { there = omega arith; room = omega arith; part = record { ws = []; reads = e ∙ none h; place = omega arith; words = refl } }
+  where
+    none : (g : Res (List ℕ)) → g ≡ pushes [] g
+    none (refuse k) = refl
+    none (ok ws) = refl
+
+pub ahead-long : (s : List ℕ) (g h : Res (List ℕ)) (at : ℕ) (v : List ℕ) (i to : ℕ) (w : List ℕ) → Ahead s g h at v i to w → length w ≡ length v
+ahead-long s g h at v i to w a = rw (a .part .words, length-sets)
+
+-- three words of k bytes more
+ahead-step : (s : List ℕ) (k : ℕ) (g h h′ : Res (List ℕ)) (x y z from : ℕ) (v : List ℕ) (i at : ℕ) (w w′ : List ℕ) → 3 < k → i + k ≤ length s
+    → h ≡ push3 x y z h′ → w′ ≡ set (set (set w at x) (at + 1) y) (at + 2) z → Ahead s g h from v i at w → Ahead s g h′ from v (i + k) (at + 3) w′
+ahead-step s k g h h′ x y z from v i at w w′ m l e f a =
+    let r : at + length s ≤ from + length s + i = a .room in
+    record { there = l; room = omega arith; part = part-join g h h′ from at (at + 3) v w w′ (a .part) one }
+  where
+    three : (g : Res (List ℕ)) → push3 x y z g ≡ pushes (x ∷ y ∷ z ∷ []) g
+    three (refuse n) = refl
+    three (ok ws) = refl
+
+    one : Part h h′ at (at + 3) w w′
+    one = record { ws = x ∷ y ∷ z ∷ []; reads = e ∙ three h′; place = omega arith; words = f ∙ sets3 w at x y z [] }
+
+after-length : (s : List ℕ) (i : ℕ) → length (take (length s - i) (drop i s)) ≡ length s - i
+after-length s i = rw (take-rest i s, length-drop i s)
+
+module _ (s : List ℕ) (from : ℕ) (v : List ℕ) where
+  pub bare-starts : Ahead s (bandsOf s) (bandsOf (drop 0 s)) from v 0 from v
+  bare-starts = ahead-starts s (bandsOf s) (bandsOf s) from v refl
+
+  -- a band without entries
+  pub bare-room : (i f l n : ℕ) → headOf (take (length s - i) (drop i s)) ≡ H.Band f l n → i ≤ length s → i + 4 ≤ length s
+  bare-room i f l n e h = omega (arith, head-room (take (length s - i) (drop i s)) f l n e, after-length s i)
+
+  pub bare-step : (i at : ℕ) (w w′ : List ℕ) (f l n : ℕ) → headOf (take (length s - i) (drop i s)) ≡ H.Band f l n → n ≡ 0
+      → w′ ≡ set (set (set w at f) (at + 1) l) (at + 2) n → Ahead s (bandsOf s) (bandsOf (drop i s)) from v i at w → Ahead s (bandsOf s) (bandsOf (drop (i + 4) s)) from v (i + 4) (at + 3) w′
+  bare-step i at w w′ f l n e z q a =
+      let b : bandsOf (drop i s) ≡ push3 f l n (bandsOf (drop 4 (drop i s))) = rw (bands-step (drop i s), rw (take-rest i s) at e, eq-eqb n 0 z) in
+      ahead-step s 4 (bandsOf s) (bandsOf (drop i s)) (bandsOf (drop (i + 4) s)) f l n from v i at w w′ (omega arith) (bare-room i f l n e (a .there)) (b ∙ ap (λ (t : List ℕ). push3 f l n (bandsOf t)) (drop-drop 4 i s)) q a
+
+  -- an entry that is not its band's last
+  pub inner-starts : (n lo : ℕ) → Ahead s (entriesOf s n lo) (entriesOf (drop 0 s) n lo) from v 0 from v
+  inner-starts n lo = ahead-starts s (entriesOf s n lo) (entriesOf s n lo) from v refl
+
+  pub inner-room : (i lo c x a : ℕ) → entryOf (take (length s - i) (drop i s)) lo ≡ E.Got c x a → i ≤ length s → i + 6 ≤ length s
+  inner-room i lo c x a e h = omega (arith, entry-room (take (length s - i) (drop i s)) lo c x a e, after-length s i)
+
+  pub inner-step : (m k : ℕ) (i at n lo : ℕ) (w w′ : List ℕ) (c x a : ℕ) → entryOf (take (length s - i) (drop i s)) lo ≡ E.Got c x a → 1 < n
+      → w′ ≡ set (set (set w at c) (at + 1) x) (at + 2) a → Ahead s (entriesOf s m k) (entriesOf (drop i s) n lo) from v i at w
+      → Ahead s (entriesOf s m k) (entriesOf (drop (i + 6) s) (n - 1) (c + 1)) from v (i + 6) (at + 3) w′
+  inner-step m k i at n lo w w′ c x a e z q h =
+      let b : entriesOf (drop i s) n lo ≡ push3 c x a (entriesOf (drop 6 (drop i s)) (n - 1) (c + 1)) = rw (entries-step (drop i s) n lo, rw (take-rest i s) at e, ne-eqb n 1 (λ f. omega arith)) in
+      ahead-step s 6 (entriesOf s m k) (entriesOf (drop i s) n lo) (entriesOf (drop (i + 6) s) (n - 1) (c + 1)) c x a from v i at w w′ (omega arith) (inner-room i lo c x a e (h .there)) (b ∙ ap (λ (t : List ℕ). push3 c x a (entriesOf t (n - 1) (c + 1))) (drop-drop 6 i s)) q h
+
+-- what f reads from there on
+pub goes-after : (s : List ℕ) (i d : ℕ) (g : Res (List ℕ)) (f : List ℕ → Res (List ℕ)) (at to : ℕ) (v w v′ : List ℕ) (r : Stop) → Ahead s g (f (drop i s)) at v i to w
+    → Goes (take (length s - i) (drop i s)) d (f (take (length s - i) (drop i s))) to w r v′ → Goes s d g at v r v′
+unfolding Goes
+goes-after s i d g f at to v w v′ r a q = go r (subst (λ (t : List ℕ). Goes t d (f t) to w r v′) (take-rest i s) q)
+  where
+    there : i ≤ length s
+    there = a .there
+
+    room : to + length s ≤ at + length s + i
+    room = a .room
+
+    go : (r : Stop) → Goes (drop i s) d (f (drop i s)) to w r v′ → Goes s d g at v r v′
+    go (stop.End n) q = part-join g (f (drop i s)) (ok []) at to n v w v′ (a .part) q
+    go stop.Bad q = a .part .reads ∙ ap (pushes (a .part .ws)) q
+    go (stop.More rest left lo n) q =
+        let b : rest + d ≤ length s - i = rw (← length-drop i s) (q .1) in
+        let c : n + rest ≤ to + (length s - i) = rw (← length-drop i s) (q .2) in
+        (part-join g (f (drop i s)) (restOf (lastOf rest s) left lo) at to n v w v′ (a .part) (subst (λ (t : List ℕ). Part (f (drop i s)) (restOf t left lo) to n w v′) (last-drop i rest s (omega arith)) (q .0)), omega arith, omega arith)
+
 -- the readers have read g up to the last n bytes of s, and go on from there
 pub record Reading (s : List ℕ) (from : ℕ) (v : List ℕ) (n left lo at : ℕ) (v′ : List ℕ) : Type 0 where
   pub there : n ≤ length s
@@ -275,6 +352,14 @@ module _ (s : List ℕ) (at : ℕ) (ws : List ℕ) where
       go (ok v) q e f g =
           let l : at + length v ≤ length ws = omega (arith, counted (ok v) n e .1) in
           record { answer = rw (q, le-leb (at + length v) (length ws) l) f; words = rw (q, le-leb (at + length v) (length ws) l) (g tt) }
+
+  -- bands that were counted before
+  pub stored-known : (r : BandAnswer) (ws′ : List ℕ) → IsOk (bandsOf s) → at + length (listed (bandsOf s)) ≤ length ws → ListRead s at ws r ws′ → Stored s at ws r ws′
+  stored-known r ws′ o b f = stored-words (length (listed (bandsOf s))) r ws′ (known (bandsOf s) o) b f
+    where
+      known : (g : Res (List ℕ)) → IsOk g → countOf 0 g ≡ band-answer.Words (length (listed g))
+      known (refuse k) o = absurd o
+      known (ok v) o = ap band-answer.Words (omega arith)
 
   pub stored-short : (n : ℕ) → countOf 0 (bandsOf s) ≡ band-answer.Words n → length ws < at + n → Stored s at ws (band-answer.Refused short-words) ws
   unfolding stored

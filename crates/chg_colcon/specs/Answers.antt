@@ -47,6 +47,12 @@ pub record Part (g h : Res (List ℕ)) (at to : ℕ) (v v′ : List ℕ) : Type 
   pub place : to ≡ at + length ws
   pub words : v′ ≡ sets v at ws
 
+-- the same up to byte i of s, each word in more than a byte
+pub record Ahead (s : List ℕ) (g h : Res (List ℕ)) (at : ℕ) (v : List ℕ) (i to : ℕ) (v′ : List ℕ) : Type 0 where
+  pub there : i ≤ length s
+  pub room : to + length s ≤ at + length s + i
+  pub part : Part g h at to v v′
+
 -- where reading the words g from the bytes s stops after at most d calls: each of d calls has taken a byte at least, and a word takes
 -- more than a byte
 unfoldable pub Goes : List ℕ → ℕ → Res (List ℕ) → ℕ → List ℕ → Stop → List ℕ → Type 0

@@ -3,10 +3,11 @@
 use outcome::NO_BAND_LIST;
 use outcome::SHORT_WORDS;
 ghost use mathlib.Core.Path.{_≡_};
-ghost use Prim.Native.Nat.{_≤_, _<_, _+_, _*_, _^_};
-ghost use lib.ListN.{length, set};
+ghost use Prim.Native.Nat.{ℕ, _≤_, _<_, _-_, _+_, _*_, _^_, min};
+ghost use lib.ListN.{length, getD, drop, set};
 ghost use Rattle.chg_colcon.specs.Bands.{wordOf, header, headOf, entryOf, bandsOf, entriesOf};
-ghost use Rattle.chg_colcon.specs.Answers.{countOf, Stored, restOf, Goes, ListRead};
+ghost use Rattle.outcome.specs.Outcome.{listed, IsOk};
+ghost use Rattle.chg_colcon.specs.Answers.{countOf, Stored, restOf, Goes, Ahead, ListRead};
 
 // What a list of bands gives.
 pub enum BandAnswer {
@@ -85,7 +86,7 @@ fn read_entry(p: &[u8], lo: u32) -> EntryRead
 }
 
 // The readers below call each other at most so often before they hand back, which bounds the stack they take.
-const DEEPEST: usize = 64;
+const DEEPEST: usize = 4;
 
 // Where the header and entry readers stop.
 enum Stop {
@@ -173,15 +174,97 @@ fn entries_from(p: &[u8], left: u16, lo: u32, deep: usize, out: &mut [u16], at: 
     }
 }
 
+// How far bands without entries go: the bytes taken, and the place after the last word.
+struct Run {
+    taken: usize,
+    at: usize,
+}
+
+// Reads bands from a header on, up to the first that has entries or to what is no band, and stores their words from `from` on where there is
+// room. No reader hands on to the other there, so it is a loop.
+fn bare_bands(p: &[u8], out: &mut [u16], from: usize) -> Run
+    requires { ⌜ from + length (now p) < 2 ^ 64 ⌝ }
+    ensures { λ r. ⌜ Ahead (now (p .entry)) (bandsOf (now (p .entry))) (bandsOf (drop (r .taken) (now (p .entry)))) from (now (out .entry)) (r .taken) (r .at) (now (out .exit)) ⌝ }
+{
+    let mut i: usize = 0;
+    let mut at = from;
+    loop {
+        match read_head(&p[i..]) {
+            Header::End => {
+                return Run { taken: i, at };
+            }
+            Header::Bad => {
+                return Run { taken: i, at };
+            }
+            Header::Band(first, last, left) => {
+                if 0 < left {
+                    return Run { taken: i, at };
+                }
+                put3(out, at, first, last, left);
+                i += 4;
+                at += 3;
+            }
+        }
+    }
+}
+
+// How far entries go: the bytes taken, the place after the last word, the entries to go and the least column of the next.
+struct EntryRun {
+    taken: usize,
+    at: usize,
+    left: u16,
+    lo: u32,
+}
+
+// The same of a band's entries, up to the last or to what is no entry.
+fn inner_entries(p: &[u8], count: u16, least: u32, out: &mut [u16], from: usize) -> EntryRun
+    requires { ⌜ (1 ≤ count) × (from + length (now p) < 2 ^ 64) ⌝ }
+    ensures { λ r. ⌜ (1 ≤ r .left) × Ahead (now (p .entry)) (entriesOf (now (p .entry)) count least) (entriesOf (drop (r .taken) (now (p .entry))) (r .left) (r .lo)) from (now (out .entry)) (r .taken) (r .at) (now (out .exit)) ⌝ }
+{
+    let mut i: usize = 0;
+    let mut at = from;
+    let mut left = count;
+    let mut lo = least;
+    while 1 < left {
+        match read_entry(&p[i..], lo) {
+            EntryRead::Bad => {
+                return EntryRun {
+                    taken: i,
+                    at,
+                    left,
+                    lo,
+                };
+            }
+            EntryRead::Got(col, selectors, alphas) => {
+                put3(out, at, col, selectors, alphas);
+                i += 6;
+                at += 3;
+                left -= 1;
+                lo = col as u32 + 1;
+            }
+        }
+    }
+    EntryRun {
+        taken: i,
+        at,
+        left,
+        lo,
+    }
+}
+
 // Goes on where the readers stopped.
 fn go_on(p: &[u8], left: u16, lo: u32, out: &mut [u16], at: usize) -> Stop
     requires { ⌜ at + length (now p) < 2 ^ 64 ⌝ }
-    ensures { λ r. ⌜ Goes (now (p .entry)) 64 (restOf (now (p .entry)) left lo) at (now (out .entry)) r (now (out .exit)) ⌝ }
+    ensures { λ r. ⌜ Goes (now (p .entry)) 4 (restOf (now (p .entry)) left lo) at (now (out .entry)) r (now (out .exit)) ⌝ }
 {
     if left == 0 {
-        return bands_from(p, DEEPEST, out, at);
+        let run = bare_bands(p, out, at);
+        let i = run.taken;
+        return bands_from(&p[i..], DEEPEST, out, run.at);
     }
-    entries_from(p, left, lo, DEEPEST, out, at)
+    let run = inner_entries(p, left, lo, out, at);
+    let i = run.taken;
+    entries_from(&p[i..], run.left, run.lo, DEEPEST, out, run.at)
 }
 
 // The number of words of the band list, stored from `from` on where there is room.
@@ -241,4 +324,13 @@ pub fn parse_chg_colcon_payload(payload: &[u8], words: &mut [u16], at: usize) ->
         }
         BandAnswer::Refused(number) => BandAnswer::Refused(number),
     }
+}
+
+// The same of bands that were counted before and for which there is room: they are not counted again.
+// Ruled out: the same as there.
+pub fn store_words(payload: &[u8], words: &mut [u16], at: usize) -> BandAnswer
+    requires { ⌜ (IsOk (bandsOf (now payload))) × (at + length (listed (bandsOf (now payload))) ≤ length (now words)) ⌝ }
+    ensures { λ r. ⌜ Stored (now (payload .entry)) at (now (words .entry)) r (now (words .exit)) ⌝ }
+{
+    read_list(payload, words, at)
 }

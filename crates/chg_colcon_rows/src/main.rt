@@ -71,8 +71,8 @@ fn row(name: &[u8], payload: &[u8], at: usize, room: usize) {
     stored_front(payload, &mut words, at, room);
 }
 
-// A payload of 60 bands without entries and one of 15, of which the seventh starts at `column` and each other one at its number. The readers
-// hand back after 64 calls, so within the last band.
+// A payload of 60 bands without entries and one of 15, of which the seventh starts at `column` and each other one at its number. Bands without
+// entries are read in a loop, and the readers hand back after 4 calls, so within the last band.
 fn across(name: &[u8], column: u8) {
     let mut payload = [0u8; 334];
     payload[242] = 0xF0;

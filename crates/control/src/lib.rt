@@ -21,6 +21,11 @@ ghost use Rattle.control.specs.Answers.{spuOf, orderAnswer, commandsAnsw
 
 // The record of a unit, by the names of the original.
 pub struct Spu {
+    // How many words the bands of all colour changes take. The wide numbers come first and the flags last, so that no byte of the record is
+    // unused: unused ones would be carried from command to command too.
+    pub band_words: usize,
+    // The number of codes read from both fields; 0 until they are read.
+    pub codes: usize,
     // The first and last column and the first and last line of the picture on the display.
     pub x1: u16,
     pub y1: u16,
@@ -29,22 +34,17 @@ pub struct Spu {
     // The words of four palette selectors and of four alphas, colour 0 in the top nibble.
     pub palette_sel: u16,
     pub alpha: u16,
-    // Whether there is a start, of either kind, and the delay of the first.
-    pub started: bool,
+    // The delay of the first start, of either kind, and of the last stop.
     pub start_delay_raw: u16,
-    // Whether there is a stop, and the delay of the last.
-    pub stopped: bool,
     pub stop_delay_raw: u16,
-    // Whether there is a forced start.
-    pub forced_display: bool,
     // Where the two fields start in the unit.
     pub top_rle_off: u16,
     pub bot_rle_off: u16,
-    // Whether there is a colour change, and how many words the bands of all of them take.
+    // Whether there is a start, a stop, a forced start, a colour change.
+    pub started: bool,
+    pub stopped: bool,
+    pub forced_display: bool,
     pub saw_chg_colcon: bool,
-    pub band_words: usize,
-    // The number of codes read from both fields; 0 until they are read.
-    pub codes: usize,
 }
 
 // What a command tells.

@@ -3,3 +3,4 @@ pub mod Turns
 pub mod Numbers
 pub mod Steps
 pub mod Times
+pub mod Minus

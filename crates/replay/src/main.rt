@@ -10,6 +10,8 @@ const WORD: u16 = 0xA5C3;
 
 const NUMBER: usize = 0xA5C35A3C0FF09669;
 
+const START: i64 = 0x5AC35A3C0FF09669;
+
 // What a row of the list expects: the refusal, and the sum over all that a call gives and all that was lent to it.
 struct Expected {
     refusal: u8,
@@ -46,6 +48,49 @@ fn mixed_numbers(sum: u64, s: &[usize; 16]) -> u64 {
     let mut i = 0;
     while i < 16 {
         t = mixed(t, s[i] as u64);
+        i += 1;
+    }
+    t
+}
+
+fn mixed_byte(sum: u64, b: u8) -> u64 {
+    mixed(sum, b as u64)
+}
+
+fn mixed_palette(sum: u64, s: &[u8; 48]) -> u64 {
+    let mut t = sum;
+    let mut i = 0;
+    while i < 48 {
+        t = mixed_byte(t, s[i]);
+        i += 1;
+    }
+    t
+}
+
+// The sign, and how far it is from 0 or from -1.
+fn mixed_signed(sum: u64, v: i64) -> u64 {
+    if v < 0 {
+        let far = -1 - v;
+        return mixed(mixed(sum, 1), far as u64);
+    }
+    mixed(mixed(sum, 0), v as u64)
+}
+
+fn mixed_starts(sum: u64, s: &[i64]) -> u64 {
+    let mut t = sum;
+    let mut i = 0;
+    while i < s.len() {
+        t = mixed_signed(t, s[i]);
+        i += 1;
+    }
+    t
+}
+
+fn mixed_positions(sum: u64, s: &[u64]) -> u64 {
+    let mut t = sum;
+    let mut i = 0;
+    while i < s.len() {
+        t = mixed(t, s[i]);
         i += 1;
     }
     t
@@ -102,6 +147,26 @@ fn written(bytes: &[u8], width: usize, height: usize, out: &mut [u8], e: Expecte
     let mut length: usize = NUMBER;
     let r = vobsub_c::vobsub_build_demo_spu(width, height, bytes, out, &mut length);
     as_expected(e, r, mixed_bytes(mixed(1, length as u64), out))
+}
+
+fn index(bytes: &[u8], starts: &mut [i64], positions: &mut [u64], e: Expected) -> bool {
+    let mut palette: [u8; 48] = [BYTE; 48];
+    let mut numbers: [usize; 4] = [NUMBER; 4];
+    let r = vobsub_c::vobsub_parse_idx(bytes, starts, positions, &mut palette, &mut numbers);
+    let size = mixed(mixed(1, numbers[0] as u64), numbers[1] as u64);
+    let s = mixed(mixed(size, numbers[2] as u64), numbers[3] as u64);
+    let t = mixed_starts(mixed_palette(s, &palette), starts);
+    as_expected(e, r, mixed_positions(t, positions))
+}
+
+fn cue(bytes: &[u8], n: usize, e: Expected) -> bool {
+    let mut start: i64 = START;
+    let mut palette: [u8; 48] = [BYTE; 48];
+    let mut numbers: [u64; 4] = [NUMBER as u64; 4];
+    let r = vobsub_c::vobsub_pick_cue(bytes, n, &mut start, &mut palette, &mut numbers);
+    let found = mixed(mixed(mixed_signed(1, start), numbers[0]), numbers[1]);
+    let s = mixed(mixed(found, numbers[2]), numbers[3]);
+    as_expected(e, r, mixed_palette(s, &palette))
 }
 
 fn packets_front(
@@ -174,6 +239,40 @@ fn unit_front(
     false
 }
 
+fn index_positions(
+    bytes: &[u8],
+    starts: &mut [i64],
+    positions: &mut [u64],
+    more: usize,
+    e: Expected,
+) -> bool {
+    if more <= positions.len() {
+        return index(bytes, starts, &mut positions[..more], e);
+    }
+    false
+}
+
+fn index_front(
+    bytes: &[u8],
+    starts: &mut [i64],
+    room: usize,
+    positions: &mut [u64],
+    more: usize,
+    e: Expected,
+) -> bool {
+    if room <= starts.len() {
+        return index_positions(bytes, &mut starts[..room], positions, more, e);
+    }
+    false
+}
+
+// The text's row, with buffers of so many places.
+fn index_row(bytes: &[u8], room: usize, more: usize, e: Expected) -> bool {
+    let mut starts = [START; 64];
+    let mut positions = [NUMBER as u64; 64];
+    index_front(bytes, &mut starts, room, &mut positions, more, e)
+}
+
 fn word_of(a: u8, b: u8) -> usize {
     a as usize * 256 + b as usize
 }
@@ -203,6 +302,12 @@ fn row(class: u8, bytes: &[u8], a: usize, b: usize, c: usize, d: usize, e: Expec
     }
     if class == 6 {
         return written_front(bytes, a, b, &mut map, c, e);
+    }
+    if class == 7 {
+        return index_row(bytes, a, b, e);
+    }
+    if class == 8 {
+        return cue(bytes, a, e);
     }
     false
 }
@@ -296,4 +401,6 @@ fn main() {
     class(b"fields");
     class(b"units");
     class(b"written");
+    class(b"idx");
+    class(b"cue");
 }

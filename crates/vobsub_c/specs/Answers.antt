@@ -3,6 +3,8 @@ use Prim.Native.Nat.{ℕ, _*_}
 use mathlib.Core.Path.{_≡_}
 use mathlib.Core.List.{List, [], _∷_}
 use mathlib.Core.Bool.{cond}
+use lib.Dec.{eqb}
+use lib.IntN.{ℤ}
 use lib.ListN.{length}
 use lib.Seq.{sets}
 use Rattle.outcome.specs.Outcome.{Res, ok, refuse, listed}
@@ -20,6 +22,10 @@ use Rattle.rle.specs.Answers.{fieldAnswer}
 use Rattle.rle.specs.declared.FieldAnswer.{FieldAnswer}
 use Rattle.rle.specs.declared.FieldAnswer.the-variants as field-answer
 use Rattle.control.specs.declared.Spu.{Spu}
+use Rattle.idx.specs.Text.{textOf}
+use Rattle.idx.specs.Answers.{linesWith, idxAnswer, startsOf, positionsOf, pickOf, cueAnswer}
+use Rattle.idx.specs.declared.IdxAnswer.{IdxAnswer}
+use Rattle.idx.specs.declared.CueAnswer.{CueAnswer}
 use Rattle.demo.specs.Unit.{demoAt}
 use Rattle.demo.specs.Answers.{demoGiven}
 use Rattle.demo.specs.declared.DemoAnswer.{DemoAnswer}
@@ -127,3 +133,41 @@ pub record UnitWritten (w h : ℕ) (indices out : List ℕ) (before r : ℕ) (ou
   pub refusal : r ≡ demoRefusal (demoGiven (demoAt w h indices (length out)))
   pub long : after ≡ demoLength (demoGiven (demoAt w h indices (length out))) before
   pub stores : out′ ≡ sets out 0 (listed (demoAt w h indices (length out)))
+
+-- size, whether there is a palette and the number of cues in the order of include/vobsub.h
+abbrev pub idxNumbers : IdxAnswer → List ℕ
+idxNumbers a = a .width ∷ a .height ∷ cond (a .«has_palette») 1 0 ∷ a .cues ∷ []
+
+-- and those and the palette where nothing is refused, or what was there
+abbrev pub idxRecord : IdxAnswer → List ℕ → List ℕ
+idxRecord a before = cond (eqb (a .refused) 0) (idxNumbers a) before
+
+abbrev pub idxPalette : IdxAnswer → List ℕ → List ℕ
+idxPalette a before = cond (eqb (a .refused) 0) (a .palette) before
+
+pub record IndexGiven (text : List ℕ) (starts : List ℤ) (positions palette numbers : List ℕ) (r : ℕ) (starts′ : List ℤ) (positions′ palette′ numbers′ : List ℕ) : Type 0 where
+  pub refusal : r ≡ idxAnswer (linesWith starts positions text) .refused
+  pub told : numbers′ ≡ idxRecord (idxAnswer (linesWith starts positions text)) numbers
+  pub colours : palette′ ≡ idxPalette (idxAnswer (linesWith starts positions text)) palette
+  pub starts-are : starts′ ≡ sets starts 0 (startsOf (listed (linesWith starts positions text)))
+  pub positions-are : positions′ ≡ sets positions 0 (positionsOf (listed (linesWith starts positions text)))
+
+-- position, whether there is a duration, the duration, and whether there is a palette in the order of include/vobsub.h
+abbrev pub cueNumbers : CueAnswer → List ℕ
+cueNumbers a = a .position ∷ cond (a .«has_duration») 1 0 ∷ a .duration ∷ cond (a .«has_palette») 1 0 ∷ []
+
+-- and those, the start and the palette where nothing is refused, or what was there
+abbrev pub cueRecord : CueAnswer → List ℕ → List ℕ
+cueRecord a before = cond (eqb (a .refused) 0) (cueNumbers a) before
+
+abbrev pub cueStart : CueAnswer → ℤ → ℤ
+cueStart a before = cond (eqb (a .refused) 0) (a .start) before
+
+abbrev pub cuePalette : CueAnswer → List ℕ → List ℕ
+cuePalette a before = cond (eqb (a .refused) 0) (a .palette) before
+
+pub record CueGiven (text : List ℕ) (cue : ℕ) (start : ℤ) (palette numbers : List ℕ) (r : ℕ) (start′ : ℤ) (palette′ numbers′ : List ℕ) : Type 0 where
+  pub refusal : r ≡ cueAnswer (pickOf (textOf text) cue) .refused
+  pub starts-at : start′ ≡ cueStart (cueAnswer (pickOf (textOf text) cue)) start
+  pub told : numbers′ ≡ cueRecord (cueAnswer (pickOf (textOf text) cue)) numbers
+  pub colours : palette′ ≡ cuePalette (cueAnswer (pickOf (textOf text) cue)) palette

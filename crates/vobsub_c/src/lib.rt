@@ -3,13 +3,15 @@
 use chg_colcon::BandAnswer;
 use control::Spu;
 use demo::DemoAnswer;
+use idx::CueAnswer;
+use idx::IdxAnswer;
 use outcome::NO_UNIT;
 use ps::UnitAnswer;
 use rle::FieldAnswer;
 use spu::SpuAnswer;
 ghost use mathlib.Core.Bool.{cond};
 ghost use mathlib.Core.Path.{_≡_};
-ghost use Rattle.vobsub_c.specs.Answers.{BandsGiven, UnitExtracted, FieldDecoded, BodyFound, spuNumbers, UnitDecoded, UnitWritten};
+ghost use Rattle.vobsub_c.specs.Answers.{BandsGiven, UnitExtracted, FieldDecoded, BodyFound, spuNumbers, UnitDecoded, UnitWritten, idxNumbers, IndexGiven, cueNumbers, CueGiven};
 
 // The bands in a payload, stored from place `at` of the lent words on, and how many words they take.
 // Ruled out: a count set on a refusal.
@@ -210,4 +212,68 @@ pub extern "C" fn vobsub_build_demo_spu(
         }
         DemoAnswer::Refused(number) => number,
     }
+}
+
+// Size, whether there is a palette (1) or none (0), and how many cues, in the order of include/vobsub.h.
+// Ruled out: width and height in each other's place.
+fn idx_numbers_of(a: IdxAnswer) -> [usize; 4]
+    ensures { λ r. ⌜ r ≡ idxNumbers a ⌝ }
+{
+    let coloured = flag(a.has_palette);
+    [a.width as usize, a.height as usize, coloured, a.cues]
+}
+
+// Size, palette and cues of an index text: start and position of each cue go to the front of the lent buffers.
+// Ruled out: a palette or a size stored on a refusal; a text accepted whose palette is left as found.
+#[no_mangle]
+pub extern "C" fn vobsub_parse_idx(
+    text: &[u8],
+    starts: &mut [i64],
+    positions: &mut [u64],
+    palette: &mut [u8; 48],
+    numbers: &mut [usize; 4],
+) -> u8
+    ensures { λ r. ⌜ IndexGiven (now (text .entry)) (now (starts .entry)) (now (positions .entry)) (now (palette .entry)) (now (numbers .entry)) r (now (starts .exit)) (now (positions .exit)) (now (palette .exit)) (now (numbers .exit)) ⌝ }
+{
+    let a = idx::parse_idx(text, starts, positions);
+    if a.refused == 0 {
+        let colours = a.palette;
+        *palette = colours;
+        *numbers = idx_numbers_of(a);
+        return 0;
+    }
+    a.refused
+}
+
+// Position, whether another cue follows and the time up to it, and whether there is a palette, in the order of include/vobsub.h.
+fn cue_numbers_of(a: CueAnswer) -> [u64; 4]
+    ensures { λ r. ⌜ r ≡ cueNumbers a ⌝ }
+{
+    let lasts = flag(a.has_duration);
+    let coloured = flag(a.has_palette);
+    [a.position, lasts as u64, a.duration, coloured as u64]
+}
+
+// One cue of an index text: its start, its other numbers, and the text's palette.
+// Ruled out: a start set on a refusal; the duration for the start.
+#[no_mangle]
+pub extern "C" fn vobsub_pick_cue(
+    text: &[u8],
+    cue: usize,
+    start: &mut i64,
+    palette: &mut [u8; 48],
+    numbers: &mut [u64; 4],
+) -> u8
+    ensures { λ r. ⌜ CueGiven (now (text .entry)) cue (now (start .entry)) (now (palette .entry)) (now (numbers .entry)) r (now (start .exit)) (now (palette .exit)) (now (numbers .exit)) ⌝ }
+{
+    let a = idx::pick_cue(text, cue);
+    if a.refused == 0 {
+        let from = a.start;
+        let colours = a.palette;
+        *start = from;
+        *palette = colours;
+        *numbers = cue_numbers_of(a);
+        return 0;
+    }
+    a.refused
 }

@@ -1,11 +1,11 @@
 // Makes the fixed list of answers that crates/replay replays: `list FILE`. Run again it gives the same bytes.
 //
 // The list: 128 bytes of text that say how it was made; then for each class in the order of `classes::all` a word with the number of its rows,
-// and its rows. A row is 16 bytes and the request's bytes: which function is asked (1 pes, 2 packets, 3 bands, 4 fields, 5 units, 6 written), the refusal,
-// a word with the number of bytes, four words with the request's numbers, and four bytes with the sum over the answer.
+// and its rows. A row is 16 bytes and the request's bytes: which function is asked (1 pes, 2 packets, 3 bands, 4 fields, 5 units, 6 written,
+// 7 idx, 8 cue), the refusal, a word with the number of bytes, four words with the request's numbers, and four bytes with the sum over the answer.
 //
 // Only requests on which both sides agree (or that a rule covers) go into the list, so many for each answer.
-use oracle::class::{BYTE, Class, NUMBER, Request, Sum, WORD, World};
+use oracle::class::{BYTE, Class, NUMBER, Request, START, Sum, WORD, World};
 use oracle::classes;
 use oracle::port;
 use oracle::random::Random;
@@ -46,6 +46,8 @@ fn kind(class: &Class) -> u8 {
         "bands" => 3,
         "fields" => 4,
         "written" => 6,
+        "idx" => 7,
+        "cue" => 8,
         _ => 5,
     }
 }
@@ -87,6 +89,27 @@ fn answer(kind: u8, bytes: &[u8], n: [usize; 4]) -> (u8, u64) {
             let refusal = port::write(n[0], n[1], bytes, &mut out, &mut length);
             sum.add(length);
             sum.all(&out);
+            refusal
+        }
+        7 => {
+            let (mut starts, mut positions, mut palette, mut numbers) = (vec![START; n[0]], vec![NUMBER as u64; n[1]], [BYTE; port::COLOURS], [NUMBER; port::INDEX_NUMBERS]);
+            let refusal = port::parse_idx(bytes, &mut starts, &mut positions, &mut palette, &mut numbers);
+            for v in numbers {
+                sum.add(v);
+            }
+            sum.all(&palette);
+            for v in starts {
+                sum.signed(v);
+            }
+            sum.all(&positions);
+            refusal
+        }
+        8 => {
+            let (mut start, mut palette, mut numbers) = (START, [BYTE; port::COLOURS], [NUMBER as u64; port::CUE_NUMBERS]);
+            let refusal = port::pick_cue(bytes, n[0], &mut start, &mut palette, &mut numbers);
+            sum.signed(start);
+            sum.all(&numbers);
+            sum.all(&palette);
             refusal
         }
         _ => {

@@ -27,6 +27,9 @@ fn now() -> f64 {
 }
 
 struct Lent {
+    starts: Vec<i64>,
+    positions: Vec<u64>,
+    palette: [u8; port::COLOURS],
     scratch: Vec<u8>,
     map: Vec<u8>,
     words: Vec<u16>,
@@ -120,18 +123,38 @@ fn extract(name: &str, title: &Title, lent: &mut Lent) {
     );
 }
 
+// The whole text with both cue buffers lent, and one cue of it, its last but one.
+fn index(title: &Title, lent: &mut Lent) {
+    let text = title.text.as_str();
+    let cues = title.positions.len();
+    let mut original = || {
+        black_box(original::parse_idx(black_box(text)).is_ok());
+    };
+    let mut numbers = [0; port::INDEX_NUMBERS];
+    beside(&format!("{}, the index text of {cues} cues", title.name), &mut original, &mut || {
+        let refusal = port::parse_idx(black_box(text.as_bytes()), &mut lent.starts, &mut lent.positions, &mut lent.palette, &mut numbers);
+        assert_eq!((refusal, numbers[port::CUES]), (0, cues));
+    });
+    let (mut start, mut numbers) = (0, [0; port::CUE_NUMBERS]);
+    beside(&format!("{}, one cue of the index text", title.name), &mut original, &mut || {
+        assert_eq!(port::pick_cue(black_box(text.as_bytes()), cues - 2, &mut start, &mut lent.palette, &mut numbers), 0);
+        black_box((start, numbers));
+    });
+}
+
 // The layers alone: the payload of the long band list, and one field of the codes of one nibble.
 fn layers(lent: &mut Lent) {
     let unit = many_bands();
-    let payload = &unit[11..];
-    let mut count = 0;
-    beside(
-        "16,380 bands, the payload alone",
-        &mut || {
-            black_box(original::parse_chg_colcon_payload(black_box(payload)).is_ok());
-        },
-        &mut || assert_eq!(port::bands(black_box(payload), &mut lent.words, 0, &mut count), 0),
-    );
+    for (name, payload) in [("16,380 bands", unit[11..].to_vec()), ("6,552 bands of one entry", bands_of(1)), ("697 bands of 15 entries", bands_of(15))] {
+        let mut count = 0;
+        beside(
+            &format!("{name}, the payload alone"),
+            &mut || {
+                black_box(original::parse_chg_colcon_payload(black_box(&payload)).is_ok());
+            },
+            &mut || assert_eq!(port::bands(black_box(&payload), &mut lent.words, 0, &mut count), 0),
+        );
+    }
     let unit = one_nibble();
     let (field, width, height) = (&unit[4..65518], 4096, 62);
     let mut theirs = vec![0; width * height];
@@ -176,6 +199,20 @@ fn many_bands() -> Vec<u8> {
     headed(unit, 4)
 }
 
+// A payload with as many bands of that many entries as a unit holds.
+fn bands_of(entries: usize) -> Vec<u8> {
+    let mut payload = Vec::new();
+    while payload.len() + 4 + 6 * entries <= 65520 {
+        payload.extend([0, 0]);
+        put(&mut payload, entries << 12);
+        for i in 0..entries {
+            put(&mut payload, i);
+            payload.extend([0x01, 0x23, 0x0F, 0xFF]);
+        }
+    }
+    payload
+}
+
 // Codes of one nibble and one pixel, as many as a unit holds; both fields read the same bytes.
 fn one_nibble() -> Vec<u8> {
     let mut unit = vec![0x55; 65535 - 17];
@@ -191,9 +228,10 @@ fn one_nibble() -> Vec<u8> {
 }
 
 fn main() {
-    let mut lent = Lent { scratch: vec![0; 65536], map: vec![0; 1 << 24], words: vec![0; 1 << 16], numbers: [0; port::NUMBERS] };
+    let mut lent = Lent { starts: vec![0; 2000], positions: vec![0; 2000], palette: [0; port::COLOURS], scratch: vec![0; 65536], map: vec![0; 1 << 24], words: vec![0; 1 << 16], numbers: [0; port::NUMBERS] };
     for title in titles().iter().filter(|t| t.name.starts_with("bench")) {
         let units: Vec<Vec<u8>> = title.positions.iter().map(|&p| original::extract_spu(&title.file[p..]).expect("a unit")).collect();
+        index(title, &mut lent);
         extract(&format!("{}, {} units from packets", title.name, units.len()), title, &mut lent);
         decode(&format!("{}, {} units to record, map and words", title.name, units.len()), &units, &mut lent);
     }

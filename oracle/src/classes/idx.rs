@@ -1,13 +1,11 @@
-// Index texts. n: the number of cues that the lent buffers hold.
-//
-// The port's function is not exported yet: `port::index` answers nothing, so that only the original is run, and the class is not in `all`
-// (`--class idx` runs it). Once it is, the declaration in port.rs and a line in classes/mod.rs are all that is to add.
+// Index texts, whole (`CLASS`; n: how many starts and how many positions the lent buffers hold) and one cue of them (`CUE`; n: the cue).
 use crate::class::*;
 use crate::port;
 use crate::random::Random;
 use crate::side::{Index, Side};
 
 pub const CLASS: Class = Class { name: "idx", fixed, generate, compare, refusals: &[1, 2, 3, 4, 5, 6, 7, 8, 9, 10], accepted: true };
+pub const CUE: Class = Class { name: "cue", fixed: fixed_cues, generate: generate_cue, compare: compare_cue, refusals: &[1, 2, 3, 4, 5, 6, 7, 8, 9, 11], accepted: true };
 
 fn each_word(alphabet: &[&str], longest: u32, f: &mut dyn FnMut(&str)) {
     for length in 0..=longest {
@@ -23,18 +21,67 @@ fn each_word(alphabet: &[&str], longest: u32, f: &mut dyn FnMut(&str)) {
     }
 }
 
-fn fixed(_: &World, each: &mut dyn FnMut(Request)) {
-    let mut ask = |text: String| each(Request { bytes: text.into_bytes(), n: [9, 0, 0, 0] });
+fn fixed(world: &World, each: &mut dyn FnMut(Request)) {
+    for text in &world.texts {
+        let cues = text.matches("timestamp:").count();
+        for n in [[cues, cues], [cues + 3, cues], [cues - 1, cues], [cues, cues - 1], [0, 0]] {
+            each(Request { bytes: text.clone().into_bytes(), n: [n[0], n[1], 0, 0] });
+        }
+    }
+    let mut ask = |text: String| each(Request { bytes: text.into_bytes(), n: [9, 9, 0, 0] });
     each_word(&["0", "7", "x", "+", "-", " ", "65536"], 5, &mut |w| ask(format!("size:{w}")));
     each_word(&["0x", "1", "f", "g", ",", " ", "+", "0"], 5, &mut |w| ask(format!("palette:{w}")));
     each_word(&["1", ":", "+", "-", ",", " ", "9223372036854775807"], 5, &mut |w| ask(format!("timestamp:{w},filepos:0")));
     each_word(&["0x", "1", "a", "+", " ", "ffffffffffffffff", "18446744073709551615"], 5, &mut |w| ask(format!("timestamp:0,filepos:{w}")));
     each_word(&["timestamp:", "filepos:", "0", ",", "\n", "#", "size:", "1x1"], 5, &mut |w| ask(w.into()));
+    // all texts of up to two bytes
+    for a in 0..=255 {
+        each(Request { bytes: vec![a], n: [9, 9, 0, 0] });
+        for b in 0..=255 {
+            each(Request { bytes: vec![a, b], n: [9, 9, 0, 0] });
+        }
+    }
+    // every byte before a line's word, within it and after it
+    for b in 0..=255 {
+        for at in [0, 3, 5, 8, 13, 21, 22, 29, 30, 31] {
+            let mut bytes = b"timestamp:0:00:1:0,filepos: 1a\n".to_vec();
+            bytes.insert(at, b);
+            each(Request { bytes, n: [1, 2, 0, 0] });
+        }
+    }
+}
+
+// Starts at the ends of their range, and near 0.
+const TIMES: [&str; 10] = ["0", "0:0:0:1", "0:0:0:-1", "0:0:1", "0:0:-1", "0:0:9223372036854:775", "0:0:9223372036854:774", "0:0:-9223372036854:-775", "0:0:-9223372036854:-774", "1281023894"];
+
+fn fixed_cues(world: &World, each: &mut dyn FnMut(Request)) {
+    for text in &world.texts {
+        for cue in 0..=text.matches("timestamp:").count() {
+            each(Request { bytes: text.clone().into_bytes(), n: [cue, 0, 0, 0] });
+        }
+    }
+    each_word(&["0:0:1", ",filepos:5", "\ntimestamp:", "palette:", "a", "\n"], 5, &mut |w| {
+        for cue in 0..3 {
+            each(Request { bytes: format!("timestamp:{w}").into_bytes(), n: [cue, 0, 0, 0] });
+        }
+    });
+    for a in TIMES {
+        for b in TIMES {
+            for c in TIMES {
+                for cue in 0..4 {
+                    let lines = [a, b, c].map(|t| format!("timestamp:{t},filepos:{cue}\n"));
+                    each(Request { bytes: lines.concat().into_bytes(), n: [cue, 0, 0, 0] });
+                }
+            }
+        }
+    }
 }
 
 fn number(r: &mut Random) -> String {
-    match r.below(12) {
+    match r.below(14) {
         0 => String::new(),
+        12 => format!("{}{}{}", blank(r), r.below(100), blank(r)),
+        13 => format!("0{}0x{}", r.below(3), r.below(100)),
         1 => "+".into(),
         2 => format!("-{}", r.below(100)),
         3 => format!("+{}", r.below(100)),
@@ -53,7 +100,7 @@ fn line(r: &mut Random, out: &mut String) {
     out.push_str(blank(r));
     match r.below(16) {
         0 => out.push_str("# a remark: size: 1x1"),
-        1 => out.push_str("langidx: 0"),
+        1 => out.push_str(*r.pick(&["langidx: 0", "Size: 1x1", "size: 720", "timestamp", "palette", "filepos: 0", "size :1x1"])),
         2..5 => {
             let (w, h) = if r.once_in(4) { (number(r), number(r)) } else { (r.below(2000).to_string(), r.below(2000).to_string()) };
             out.push_str(&format!("size:{}{w}{}x{}{h}", blank(r), blank(r), blank(r)));
@@ -101,28 +148,70 @@ fn line(r: &mut Random, out: &mut String) {
     out.push_str(blank(r));
 }
 
-fn generate(_: &World, r: &mut Random) -> Request {
+// Some lines of a real text, in place.
+fn real(world: &World, r: &mut Random) -> String {
+    let lines: Vec<&str> = r.pick(&world.texts).split_inclusive('\n').collect();
+    let from = if r.once_in(3) { 0 } else { r.below(lines.len()) };
+    let to = (from + r.within(1, 12)).min(lines.len());
+    lines[from..to].concat()
+}
+
+fn text(world: &World, r: &mut Random) -> Vec<u8> {
     let mut text = String::new();
-    for _ in 0..r.within(1, 5) {
-        line(r, &mut text);
-        text.push_str(*r.pick(&["\n", "\n", "\r\n", "\n\n"]));
+    if r.once_in(4) {
+        text = real(world, r);
+    } else {
+        for _ in 0..r.within(1, 5) {
+            line(r, &mut text);
+            text.push_str(*r.pick(&["\n", "\n", "\r\n", "\n\n"]));
+        }
     }
     let mut bytes = text.into_bytes();
-    if r.once_in(8) {
-        let i = r.below(bytes.len());
-        bytes[i] = *r.pick(b"0 x:,+-\nfF#\r9");
+    if r.once_in(6) {
+        for _ in 0..r.within(1, 3) {
+            let i = r.below(bytes.len());
+            match r.below(4) {
+                0 => bytes.truncate(i.max(1)),
+                1 => bytes.insert(i, *r.pick(b"0 x:,+-\nfF#\r9")),
+                _ => bytes[i] = if r.once_in(4) { r.byte() & 0x7F } else { *r.pick(b"0 x:,+-\nfF#\r9") },
+            }
+        }
     }
     if r.once_in(30) {
         let i = r.below(bytes.len());
         bytes[i] = 0x80 | r.byte();
     }
-    let room = if r.once_in(10) { r.below(4) } else { 9 };
-    Request { bytes, n: [room, 0, 0, 0] }
+    bytes
+}
+
+fn generate(world: &World, r: &mut Random) -> Request {
+    let bytes = text(world, r);
+    let mut n = [12, 12, 0, 0];
+    if r.once_in(10) {
+        n[r.below(2)] = r.below(4);
+    }
+    if r.once_in(10) {
+        n[r.below(2)] = r.within(4, 20);
+    }
+    Request { bytes, n }
+}
+
+fn generate_cue(world: &World, r: &mut Random) -> Request {
+    let mut bytes = text(world, r);
+    if r.once_in(6) {
+        // two cues more, whose starts may be far apart
+        for _ in 0..2 {
+            bytes.extend(format!("\ntimestamp: {}, filepos: 1", r.pick(&TIMES)).into_bytes());
+        }
+    }
+    let there = bytes.windows(10).filter(|w| w == b"timestamp:").count() + r.once_in(6) as usize;
+    let cue = if r.once_in(40) { usize::MAX - r.below(3) } else { r.below(there.max(1)) };
+    Request { bytes, n: [cue, 0, 0, 0] }
 }
 
 // The refusal that a message of the original stands for, by a part of it.
 fn number_of(message: &str) -> u8 {
-    const PARTS: &[(&str, u8)] = &[("width", 2), ("height", 3), ("palette", 4), ("timestamp missing", 5), ("filepos missing", 6), ("timestamp", 7), ("bad filepos", 9)];
+    const PARTS: &[(&str, u8)] = &[("bad size width", 2), ("bad size height", 3), ("bad palette entry", 4), ("timestamp missing", 5), ("filepos missing", 6), ("timestamp ", 7), ("bad filepos", 9)];
     PARTS.iter().find(|p| message.contains(p.0)).map_or(255, |p| p.1)
 }
 
@@ -131,51 +220,105 @@ enum Expected {
     Given(Index),
 }
 
-// What the port must say: the first line at which the text so far is refused, or has a cue too many.
+// What the port must say of a text with room for so many cues, and the words of the original where it panicked.
 fn expected(side: &Side, bytes: &[u8], room: usize) -> (Expected, Option<String>) {
+    const SHORT: Expected = Expected::Refused(10, Some("10: cue buffers are lent, and too short"));
     if bytes.iter().any(|&b| b >= 0x80) {
         return (Expected::Refused(1, Some("1: a byte of 80 or above")), None);
     }
     let text = std::str::from_utf8(bytes).expect("bytes below 80");
+    match tried(|| (side.index)(text)) {
+        Ok(Ok(index)) if index.cues.len() <= room => return (Expected::Given(index), None),
+        Ok(Ok(_)) => return (SHORT, None),
+        _ => {}
+    }
+    // the first line at which the text so far is refused, or has a cue too many
     let mut end = 0;
-    let mut last = Index::default();
     for part in text.split_inclusive('\n') {
         end += part.len();
         match tried(|| (side.index)(&text[..end])) {
-            Err(words) => return (Expected::Refused(8, Some("8: a step of the sum leaves signed 64 bits")), Some(words)),
+            // a panic for any other reason is no answer that a rule covers
+            Err(words) => return (Expected::Refused(8, words.contains("overflow").then_some("8: a step of the sum leaves signed 64 bits")), Some(words)),
             Ok(Err(message)) => return (Expected::Refused(number_of(&message), None), None),
-            Ok(Ok(index)) if index.cues.len() > room => return (Expected::Refused(10, Some("10: cue buffers are lent, and too short")), None),
-            Ok(Ok(index)) => last = index,
+            Ok(Ok(index)) if index.cues.len() > room => return (SHORT, None),
+            Ok(Ok(_)) => {}
         }
     }
-    (Expected::Given(last), None)
+    (Expected::Refused(255, None), Some("the whole text is refused, and no line of it".into()))
 }
 
 fn compare(side: &Side, q: &Request) -> Outcome {
-    let mut o = Outcome::default();
-    let (expected, panicked) = expected(side, &q.bytes, q.n[0]);
-    o.panicked = panicked;
-    let answer = port::index(&q.bytes, q.n[0]);
+    let [a, b, ..] = q.n;
+    let (mut starts, mut positions) = (vec![START; a], vec![NUMBER as u64; b]);
+    let (mut palette, mut numbers) = ([BYTE; port::COLOURS], [NUMBER; port::INDEX_NUMBERS]);
+    let refusal = port::parse_idx(&q.bytes, &mut starts, &mut positions, &mut palette, &mut numbers);
+    let (expected, panicked) = expected(side, &q.bytes, a.min(b));
+    let mut o = Outcome { refusal, panicked, ..Default::default() };
+    let mut stored = 0;
     match expected {
         Expected::Refused(number, rule) => {
             o.rule = rule;
-            o.refusal = answer.as_ref().map_or(number, |a| a.refusal);
-            let said = o.refusal;
-            o.must(said == number, || format!("{number} is asked for; the port says {said}"));
-            if let Some(a) = answer {
-                o.must(a.untouched, || "the cue buffers are written on a refusal".into());
-            }
+            o.must(refusal == number, || format!("{number} is asked for; the port says {refusal}"));
+            o.must(palette == [BYTE; port::COLOURS] && numbers == [NUMBER; port::INDEX_NUMBERS], || "the palette or the numbers are written on a refusal".into());
         }
         Expected::Given(index) => {
-            o.both = true;
-            if let Some(a) = answer {
-                o.refusal = a.refusal;
-                o.both = a.refusal == 0;
-                o.must(a.refusal == 0, || format!("the original accepts; the port says {}", a.refusal));
-                o.must(a.index == index, || format!("{index:?}; the port says {:?}", a.index));
-                o.must(a.untouched, || "the cue buffers are written past the last cue".into());
+            o.both = refusal == 0;
+            o.must(refusal == 0, || format!("the original accepts; the port says {refusal}"));
+            if refusal == 0 {
+                stored = numbers[port::CUES].min(a).min(b);
+                let said = Index {
+                    size: (numbers[port::WIDTH] as u16, numbers[port::HEIGHT] as u16),
+                    palette: palette.to_vec(),
+                    has_palette: numbers[port::COLOURED] == 1,
+                    cues: starts[..stored].iter().copied().zip(positions[..stored].iter().copied()).collect(),
+                };
+                o.must(said == index, || format!("{index:?}; the port says {said:?}"));
+                o.must(numbers == [index.size.0 as usize, index.size.1 as usize, index.has_palette as usize, index.cues.len()], || format!("numbers {numbers:?} for {index:?}"));
             }
         }
     }
+    o.must(starts[stored..].iter().all(|&s| s == START), || "starts are written where nothing is stored".into());
+    o.must(positions[stored..].iter().all(|&p| p == NUMBER as u64), || "positions are written where nothing is stored".into());
+    o
+}
+
+fn compare_cue(side: &Side, q: &Request) -> Outcome {
+    let cue = q.n[0];
+    let (mut start, mut palette, mut numbers) = (START, [BYTE; port::COLOURS], [NUMBER as u64; port::CUE_NUMBERS]);
+    let refusal = port::pick_cue(&q.bytes, cue, &mut start, &mut palette, &mut numbers);
+    let (expected, panicked) = expected(side, &q.bytes, usize::MAX);
+    let mut o = Outcome { refusal, panicked, ..Default::default() };
+    let mut refused = true;
+    match expected {
+        Expected::Refused(number, rule) => {
+            o.rule = rule;
+            o.must(refusal == number, || format!("{number} is asked for; the port says {refusal}"));
+        }
+        Expected::Given(index) if cue >= index.cues.len() => {
+            o.rule = Some("11: a cue by its number is added");
+            o.must(refusal == 11, || format!("{} cues; the port says {refusal} of cue {cue}", index.cues.len()));
+        }
+        Expected::Given(index) => {
+            refused = false;
+            let (theirs, position) = index.cues[cue];
+            let next = index.cues.get(cue + 1).map(|c| c.0);
+            let lasts = match tried(|| (side.duration)(theirs, next)) {
+                Ok(lasts) => lasts,
+                Err(words) => {
+                    // a difference that leaves signed 64 bits
+                    o.rule = words.contains("overflow").then_some("durations: the ceiling, and a difference below signed 64 bits");
+                    o.panicked = Some(words);
+                    Some((next.expect("a next cue") as i128 - theirs as i128).clamp(0, i64::MAX as i128) as i64)
+                }
+            };
+            o.both = refusal == 0 && o.panicked.is_none();
+            o.must(refusal == 0, || format!("the original has cue {cue}; the port says {refusal}"));
+            o.must(start == theirs, || format!("the start {theirs}; the port says {start}"));
+            let asked = [position, lasts.is_some() as u64, lasts.unwrap_or(0) as u64, index.has_palette as u64];
+            o.must(numbers == asked, || format!("the numbers {asked:?}; the port says {numbers:?}"));
+            o.must(palette[..] == index.palette, || "the palette".into());
+        }
+    }
+    o.must(!refused || start == START && palette == [BYTE; port::COLOURS] && numbers == [NUMBER as u64; port::CUE_NUMBERS], || "start, palette or numbers are written on a refusal".into());
     o
 }

@@ -10,11 +10,6 @@ pub mod written;
 
 use crate::class::Class;
 
-// Classes of which the port's side is still to come: only the original is run.
-pub fn planned() -> Vec<Class> {
-    vec![idx::CLASS]
-}
-
 pub fn all() -> Vec<Class> {
-    vec![pes::CLASS, packets::CLASS, bands::CLASS, control::CLASS, field::CLASS, unit::CLASS, written::CLASS]
+    vec![pes::CLASS, packets::CLASS, bands::CLASS, control::CLASS, field::CLASS, unit::CLASS, written::CLASS, idx::CLASS, idx::CUE]
 }

@@ -8,7 +8,7 @@ use Rattle.grammar.specs.Control.{Order}
 use Rattle.bands.specs.Fill.{orderWords}
 use lib.Seq.{slice}
 use Rattle.outcome.proofs.Laws.{part-slice, ok-injective}
-use Rattle.bands.proofs.Fill.{change-is, change-count, change-filled, change-kept}
+use Rattle.bands.proofs.Fill.{change-is, change-known, change-count, change-filled, change-kept}
 use Rattle.bands.proofs.fill_change.Statement.{statement}
 use Rattle.bands.proofs.fill_change.Tie as tie
 
@@ -22,30 +22,30 @@ add-next : tie.Need-add-next
 add-next c =
     let d = change-is _ _ _ (c .before .before .before .pre .1 .0) (c .before .before .before .pre .0) (c .before .before .before .pre .1 .1) in omega (arith, c .word-at .ensures, d .head, d .small, d .fits)
 
-add-parse-chg-colcon-payload : tie.Need-add-parse-chg-colcon-payload
-add-parse-chg-colcon-payload c =
+add-store-words : tie.Need-add-store-words
+add-store-words c =
     let d = change-is _ _ _ (c .before .before .before .pre .1 .0) (c .before .before .before .pre .0) (c .before .before .before .pre .1 .1) in omega (arith, c .word-at .ensures, d .head, d .small, d .fits)
 
-sub-parse-chg-colcon-payload : tie.Need-sub-parse-chg-colcon-payload
-sub-parse-chg-colcon-payload c =
+sub-store-words : tie.Need-sub-store-words
+sub-store-words c =
     let d = change-is _ _ _ (c .before .before .before .pre .1 .0) (c .before .before .before .pre .0) (c .before .before .before .pre .1 .1) in omega (arith, c .word-at .ensures, d .head, d .small, d .fits)
 
-part-parse-chg-colcon-payload-start : tie.Need-part-parse-chg-colcon-payload-start
-part-parse-chg-colcon-payload-start c =
+part-store-words-start : tie.Need-part-store-words-start
+part-store-words-start c =
     let d = change-is _ _ _ (c .before .before .before .pre .1 .0) (c .before .before .before .pre .0) (c .before .before .before .pre .1 .1) in omega (arith, c .word-at .ensures, d .head, d .small, d .fits)
 
-part-parse-chg-colcon-payload-end : tie.Need-part-parse-chg-colcon-payload-end
-part-parse-chg-colcon-payload-end c =
+part-store-words-end : tie.Need-part-store-words-end
+part-store-words-end c =
     let d = change-is _ _ _ (c .before .before .before .pre .1 .0) (c .before .before .before .pre .0) (c .before .before .before .pre .1 .1) in omega (arith, c .word-at .ensures, d .head, d .small, d .fits)
 
-parse-chg-colcon-payload-requires : tie.Need-parse-chg-colcon-payload-requires
-parse-chg-colcon-payload-requires c κs = search needs
+store-words-requires : tie.Need-store-words-requires
+store-words-requires c κs = change-known _ _ _ _ (change-is _ _ _ (c .before .before .before .before .before .pre .1 .0) (c .before .before .before .before .before .pre .0) (c .before .before .before .before .before .pre .1 .1)) _ (part-slice (c .before .before .before .before .before .args .p + 2) _ (c .before .before .before .before .before .args .unit .now) ∙ ap (λ z. slice (c .before .before .before .before .before .args .p + 2) (c .before .before .before .before .before .args .p + z) (c .before .before .before .before .before .args .unit .now)) (c .before .before .word-at .ensures)) _ (c .before .before .before .before .before .args .words .now) (c .before .before .before .before .before .pre .1 .2)
 
 enum-known-n : tie.Need-enum-known-n
 enum-known-n c = search needs
 
 add-t19 : tie.Need-add-t19
-add-t19 c = omega (arith, change-count _ _ _ _ (change-is _ _ _ (c .before .before .before .before .before .before .before .before .before .before .before .pre .1 .0) (c .before .before .before .before .before .before .before .before .before .before .before .pre .0) (c .before .before .before .before .before .before .before .before .before .before .before .pre .1 .1)) _ (part-slice (c .before .before .before .before .before .before .before .before .before .before .before .args .p + 2) _ (c .before .before .before .before .before .before .before .before .before .before .before .args .unit .now) ∙ ap (λ z. slice (c .before .before .before .before .before .before .before .before .before .before .before .args .p + 2) (c .before .before .before .before .before .before .before .before .before .before .before .args .p + z) (c .before .before .before .before .before .before .before .before .before .before .before .args .unit .now)) (c .before .before .before .before .before .before .before .before .word-at .ensures)) _ _ (c .before .before .before .before .before .before .before .before .before .before .before .pre .1 .2) _ _ _ (c .before .before .before .before .before .parse-chg-colcon-payload .ensures) (c .before .n .given .1), c .before .before .before .before .before .before .before .before .before .before .before .pre .1 .2)
+add-t19 c = omega (arith, change-count _ _ _ _ (change-is _ _ _ (c .before .before .before .before .before .before .before .before .before .before .before .pre .1 .0) (c .before .before .before .before .before .before .before .before .before .before .before .pre .0) (c .before .before .before .before .before .before .before .before .before .before .before .pre .1 .1)) _ (part-slice (c .before .before .before .before .before .before .before .before .before .before .before .args .p + 2) _ (c .before .before .before .before .before .before .before .before .before .before .before .args .unit .now) ∙ ap (λ z. slice (c .before .before .before .before .before .before .before .before .before .before .before .args .p + 2) (c .before .before .before .before .before .before .before .before .before .before .before .args .p + z) (c .before .before .before .before .before .before .before .before .before .before .before .args .unit .now)) (c .before .before .before .before .before .before .before .before .word-at .ensures)) _ _ (c .before .before .before .before .before .before .before .before .before .before .before .pre .1 .2) _ _ _ (c .before .before .before .before .before .store-words .ensures) (c .before .n .given .1), c .before .before .before .before .before .before .before .before .before .before .before .pre .1 .2)
 
 enum-told : tie.Need-enum-told
 enum-told c = search needs
@@ -57,13 +57,13 @@ returns : tie.Need-returns
 returns c =
     λ o e.
     let d = change-is _ _ _ o (c .before .before .before .before .before .before .before .before .before .before .before .pre .0) e in
-    change-filled _ _ _ o d _ (part-slice (c .before .before .before .before .before .before .before .before .before .before .before .args .p + 2) _ (c .before .before .before .before .before .before .before .before .before .before .before .args .unit .now) ∙ ap (λ z. slice (c .before .before .before .before .before .before .before .before .before .before .before .args .p + 2) (c .before .before .before .before .before .before .before .before .before .before .before .args .p + z) (c .before .before .before .before .before .before .before .before .before .before .before .args .unit .now)) (c .before .before .before .before .before .before .before .before .word-at .ensures)) _ _ (subst (λ (q : Order). c .before .before .before .before .before .before .before .before .before .before .before .args .to + length (orderWords q) ≤ length (c .before .before .before .before .before .before .before .before .before .before .before .args .words .now)) (ok-injective (sym (c .before .before .before .before .before .before .before .before .before .before .before .pre .1 .1) ∙ e)) (c .before .before .before .before .before .before .before .before .before .before .before .pre .1 .2)) _ _ _ _ (c .before .before .before .before .before .before .before .before .word-at .ensures) (c .before .before .before .before .before .parse-chg-colcon-payload .ensures) (c .before .n .given .1)
+    change-filled _ _ _ o d _ (part-slice (c .before .before .before .before .before .before .before .before .before .before .before .args .p + 2) _ (c .before .before .before .before .before .before .before .before .before .before .before .args .unit .now) ∙ ap (λ z. slice (c .before .before .before .before .before .before .before .before .before .before .before .args .p + 2) (c .before .before .before .before .before .before .before .before .before .before .before .args .p + z) (c .before .before .before .before .before .before .before .before .before .before .before .args .unit .now)) (c .before .before .before .before .before .before .before .before .word-at .ensures)) _ _ (subst (λ (q : Order). c .before .before .before .before .before .before .before .before .before .before .before .args .to + length (orderWords q) ≤ length (c .before .before .before .before .before .before .before .before .before .before .before .args .words .now)) (ok-injective (sym (c .before .before .before .before .before .before .before .before .before .before .before .pre .1 .1) ∙ e)) (c .before .before .before .before .before .before .before .before .before .before .before .pre .1 .2)) _ _ _ _ (c .before .before .before .before .before .before .before .before .word-at .ensures) (c .before .before .before .before .before .store-words .ensures) (c .before .n .given .1)
 
 same-length-2 : tie.Need-same-length-2
 same-length-2 c = search needs
 
 returns-2 : tie.Need-returns-2
-returns-2 c = λ o e. absurd (change-kept _ _ _ _ (change-is _ _ _ (c .before .before .before .before .before .before .before .before .before .before .pre .1 .0) (c .before .before .before .before .before .before .before .before .before .before .pre .0) (c .before .before .before .before .before .before .before .before .before .before .pre .1 .1)) _ (part-slice (c .before .before .before .before .before .before .before .before .before .before .args .p + 2) _ (c .before .before .before .before .before .before .before .before .before .before .args .unit .now) ∙ ap (λ z. slice (c .before .before .before .before .before .before .before .before .before .before .args .p + 2) (c .before .before .before .before .before .before .before .before .before .before .args .p + z) (c .before .before .before .before .before .before .before .before .before .before .args .unit .now)) (c .before .before .before .before .before .before .before .word-at .ensures)) _ _ (c .before .before .before .before .before .before .before .before .before .before .pre .1 .2) _ _ _ (c .before .before .before .before .parse-chg-colcon-payload .ensures) (c .enum-told .given .1))
+returns-2 c = λ o e. absurd (change-kept _ _ _ _ (change-is _ _ _ (c .before .before .before .before .before .before .before .before .before .before .pre .1 .0) (c .before .before .before .before .before .before .before .before .before .before .pre .0) (c .before .before .before .before .before .before .before .before .before .before .pre .1 .1)) _ (part-slice (c .before .before .before .before .before .before .before .before .before .before .args .p + 2) _ (c .before .before .before .before .before .before .before .before .before .before .args .unit .now) ∙ ap (λ z. slice (c .before .before .before .before .before .before .before .before .before .before .args .p + 2) (c .before .before .before .before .before .before .before .before .before .before .args .p + z) (c .before .before .before .before .before .before .before .before .before .before .args .unit .now)) (c .before .before .before .before .before .before .before .word-at .ensures)) _ _ (c .before .before .before .before .before .before .before .before .before .before .pre .1 .2) _ _ _ (c .before .before .before .before .store-words .ensures) (c .enum-told .given .1))
 
 pub fill-change-spec : {M : Type 1} → statement M
 fill-change-spec =
@@ -72,11 +72,11 @@ fill-change-spec =
     word-at-requires
     cast-size
     add-next
-    add-parse-chg-colcon-payload
-    sub-parse-chg-colcon-payload
-    part-parse-chg-colcon-payload-start
-    part-parse-chg-colcon-payload-end
-    parse-chg-colcon-payload-requires
+    add-store-words
+    sub-store-words
+    part-store-words-start
+    part-store-words-end
+    store-words-requires
     enum-known-n
     add-t19
     enum-told

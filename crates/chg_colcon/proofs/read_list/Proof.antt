@@ -34,13 +34,13 @@ enum-known-to : tie.Need-enum-known-to Inv-loop μ-loop
 enum-known-to c = search needs
 
 sub-t22 : tie.Need-sub-t22 Inv-loop μ-loop
-sub-t22 c = omega (arith, reading-ends _ _ _ _ _ _ _ _ _ (c .before .before .before .before .before .before .before .before .loop .inv) 64 _ (c .before .before .before .before .before .go-on .ensures) _ (c .before .to .given .1) .place)
+sub-t22 c = omega (arith, reading-ends _ _ _ _ _ _ _ _ _ (c .before .before .before .before .before .before .before .before .loop .inv) 4 _ (c .before .before .before .before .before .go-on .ensures) _ (c .before .to .given .1) .place)
 
 same-length : tie.Need-same-length Inv-loop μ-loop
 same-length c = c .before .before .before .before .before .go-on .kept .1 .1 .1 .0 ∙ reading-long _ _ _ _ _ _ _ _ (c .before .before .before .before .before .before .before .before .loop .inv)
 
 returns : tie.Need-returns Inv-loop μ-loop
-returns c = list-ends _ _ _ _ _ (reading-ends _ _ _ _ _ _ _ _ _ (c .before .before .before .before .before .before .before .before .loop .inv) 64 _ (c .before .before .before .before .before .go-on .ensures) _ (c .before .to .given .1))
+returns c = list-ends _ _ _ _ _ (reading-ends _ _ _ _ _ _ _ _ _ (c .before .before .before .before .before .before .before .before .loop .inv) 4 _ (c .before .before .before .before .before .go-on .ensures) _ (c .before .to .given .1))
 
 enum-told : tie.Need-enum-told Inv-loop μ-loop
 enum-told c = search needs
@@ -49,16 +49,16 @@ same-length-2 : tie.Need-same-length-2 Inv-loop μ-loop
 same-length-2 c = c .before .before .before .before .go-on .kept .1 .1 .1 .0 ∙ reading-long _ _ _ _ _ _ _ _ (c .before .before .before .before .before .before .before .loop .inv)
 
 returns-2 : tie.Need-returns-2 Inv-loop μ-loop
-returns-2 c = list-fails _ _ _ _ (reading-fails _ _ _ _ _ _ _ _ _ (c .before .before .before .before .before .before .before .loop .inv) 64 _ (c .before .before .before .before .go-on .ensures) (c .enum-told .given .1))
+returns-2 c = list-fails _ _ _ _ (reading-fails _ _ _ _ _ _ _ _ _ (c .before .before .before .before .before .before .before .loop .inv) 4 _ (c .before .before .before .before .go-on .ensures) (c .enum-told .given .1))
 
 enum-known-bytes : tie.Need-enum-known-bytes Inv-loop μ-loop
 enum-known-bytes c = search needs
 
 loop-less : tie.Need-loop-less Inv-loop μ-loop
-loop-less c = omega (arith, reading-less _ _ _ _ _ _ _ _ _ (c .before .before .before .before .before .before .before .before .loop .inv) 64 _ (c .before .before .before .before .before .go-on .ensures) _ _ _ _ (c .before .bytes .given .1))
+loop-less c = omega (arith, reading-less _ _ _ _ _ _ _ _ _ (c .before .before .before .before .before .before .before .before .loop .inv) 4 _ (c .before .before .before .before .before .go-on .ensures) _ _ _ _ (c .before .bytes .given .1))
 
 loop-again : tie.Need-loop-again Inv-loop μ-loop
-loop-again c = reading-goes _ _ _ _ _ _ _ _ _ (c .before .before .before .before .before .before .before .before .loop .inv) 64 _ (c .before .before .before .before .before .go-on .ensures) _ _ _ _ (c .before .bytes .given .1)
+loop-again c = reading-goes _ _ _ _ _ _ _ _ _ (c .before .before .before .before .before .before .before .before .loop .inv) 4 _ (c .before .before .before .before .before .go-on .ensures) _ _ _ _ (c .before .bytes .given .1)
 
 pub read-list-spec : {M : Type 1} → statement M
 read-list-spec =

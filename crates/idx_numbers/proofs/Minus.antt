@@ -1,4 +1,4 @@
--- A signed number as a sign and a number, for writing it. Assumes nothing.
+-- A signed number as a sign and a number, for casting it. Assumes nothing.
 use Prim.Native.Nat.{ℕ, zero, suc, _+_, _-_, _^_, _<_}
 use mathlib.Core.Path.{_≡_, refl, ap, _∙_}
 use mathlib.Core.Bool.{Bool, true, false, cond}

@@ -1,0 +1,76 @@
+-- `vobsub_c::vobsub_parse_idx` meets its contract: the answer of the layer, taken apart by its refusal. Assumes nothing.
+use Prim.Native.Nat.{ℕ}
+use mathlib.Core.Path.{_≡_, sym, ap, _∙_}
+use mathlib.Core.Bool.{Bool, cond}
+use mathlib.Core.List.{List}
+use lib.IntN.{ℤ}
+use borrow.Author.Needs.{needs}
+use borrow.Author.Tests.{eq-eqb, ne-eqb}
+use Rattle.idx.specs.Answers.{IdxRead}
+use Rattle.idx.specs.declared.IdxAnswer.{IdxAnswer}
+use Rattle.vobsub_c.specs.Answers.{idxNumbers, idxRecord, idxPalette, IndexGiven}
+use Rattle.vobsub_c.proofs.vobsub_parse_idx.Statement.{statement}
+use Rattle.vobsub_c.proofs.vobsub_parse_idx.Tie as tie
+
+module _ (t : List ℕ) (s s′ : List ℤ) (p p′ px ns : List ℕ) (a : IdxAnswer) (q : IdxRead t s p a s′ p′) where
+  -- what is left where nothing is refused
+  accepted : a .refused ≡ 0 → (ns′ : List ℕ) → ns′ ≡ idxNumbers a → IndexGiven t s p px ns 0 s′ p′ (a .palette) ns′
+  accepted z ns′ n =
+      let y = eq-eqb (a .refused) 0 z in
+      record {
+        refusal = sym z ∙ ap (λ (o : IdxAnswer). o .refused) (q .answer);
+        told = n ∙ sym (ap (λ (b : Bool). cond b (idxNumbers a) ns) y) ∙ ap (λ (o : IdxAnswer). idxRecord o ns) (q .answer);
+        colours = sym (ap (λ (b : Bool). cond b (a .palette) px) y) ∙ ap (λ (o : IdxAnswer). idxPalette o px) (q .answer);
+        starts-are = q .stored .starts-are;
+        positions-are = q .stored .positions-are;
+      }
+
+  -- and on a refusal
+  declined : (a .refused ≡ 0 → ⊥) → IndexGiven t s p px ns (a .refused) s′ p′ px ns
+  declined z =
+      let y = ne-eqb (a .refused) 0 z in
+      record {
+        refusal = ap (λ (o : IdxAnswer). o .refused) (q .answer);
+        told = sym (ap (λ (b : Bool). cond b (idxNumbers a) ns) y) ∙ ap (λ (o : IdxAnswer). idxRecord o ns) (q .answer);
+        colours = sym (ap (λ (b : Bool). cond b (a .palette) px) y) ∙ ap (λ (o : IdxAnswer). idxPalette o px) (q .answer);
+        starts-are = q .stored .starts-are;
+        positions-are = q .stored .positions-are;
+      }
+
+parse-idx-requires : tie.Need-parse-idx-requires
+parse-idx-requires c κs = search needs
+
+idx-numbers-of-requires : tie.Need-idx-numbers-of-requires
+idx-numbers-of-requires c κs = search needs
+
+same-length : tie.Need-same-length
+same-length c = search needs
+
+same-length-2 : tie.Need-same-length-2
+same-length-2 c = search needs
+
+returns : tie.Need-returns
+returns c =
+    accepted _ _ _ _ _ _ _ _ (c .before .before .before .before .before .before .before .parse-idx .ensures) (c .before .before .if1 .taken) _ (c .idx-numbers-of .ensures)
+
+same-length-3 : tie.Need-same-length-3
+same-length-3 c = search needs
+
+same-length-4 : tie.Need-same-length-4
+same-length-4 c = search needs
+
+returns-2 : tie.Need-returns-2
+returns-2 c = declined _ _ _ _ _ _ _ _ (c .before .before .before .before .before .parse-idx .ensures) (c .if1 .left)
+
+pub vobsub-parse-idx-spec : {M : Type 1} → statement M
+vobsub-parse-idx-spec =
+    tie.close
+    (tie.spec
+    parse-idx-requires
+    idx-numbers-of-requires
+    same-length
+    same-length-2
+    returns
+    same-length-3
+    same-length-4
+    returns-2)
