@@ -32,6 +32,7 @@ use Rattle.vobsub.specs.Call.{wanted, Lent, lent, Found, found, foundFor
 use Rattle.vobsub.specs.Answers.{canvasStored, UnitPainted, shownOf, paintsOf, FoundPainted, shownGiven, canvasAnswer, scratchOf, pixelsOf, bandsOf, paintedOf, CuePainted}
 use Rattle.vobsub.specs.Claim.{Exactly}
 use Rattle.vobsub.proofs.Claim.{claim}
+use Rattle.vobsub.specs.declared.Shown.{Shown}
 use Rattle.vobsub.specs.declared.CanvasAnswer.{CanvasAnswer}
 use Rattle.vobsub.specs.declared.CanvasAnswer.the-variants as canvas-answer
 
@@ -108,17 +109,17 @@ module _ (text file : List ℕ) (cue : ℕ) (s px ws cv : List ℕ) where
       unfolding shownGiven shown spuOf
       shown-is m l =
           let z : c .start ≡ startAt (cueAt (cuesOf ls) cue) = gives .start ∙ ap startAt (sym cue-is) in
-          let t = spuOf (told (l .blocks)) (codesIn (l .rows)) in
+          let t : Shown = shownOf c (spuOf (told (l .blocks)) (codesIn (l .rows))) in
           λ i. record {
             start = z i;
             «has_duration» = gives .lasts i;
             duration = gives .duration i;
-            «start_delay» = t .«start_delay_raw»;
-            «stop_delay» = t .«stop_delay_raw»;
+            «start_delay» = t .«start_delay»;
+            «stop_delay» = t .«stop_delay»;
             x1 = t .x1;
             y1 = t .y1;
-            width = t .x2 + 1 - t .x1;
-            height = t .y2 + 1 - t .y1;
+            width = t .width;
+            height = t .height;
             codes = t .codes;
           }
 

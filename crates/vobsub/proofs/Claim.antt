@@ -150,13 +150,24 @@ module _ (text file : List ℕ) (q : Wanted) where
     gives x e = subst Gives (sym (d .answer ∙ ap canvasAnswer e)) tt
 
     equal : (x : Reading) → readingIn text file q b ≡ ok x → Equal x b r b′
-    unfolding readingIn
+    unfolding readingIn shownGiven
     equal x e =
         let a = andThen-ok (foundFor text file q (length (b .scratch))) _ e in
         let w = mapRes-ok (reading q (a .0)) (canvasIn (unitOf (a .0 .form)) (length (b .pixels)) (length (b .words)) (length (b .canvas))) (a .2) in
         let f : a .0 .form ≡ x .form = ap (λ (y : Reading). y .form) (w .2) in
         record {
-          results = d .answer ∙ ap canvasAnswer e;
+          says = shownGiven (shown x);
+          paints = d .answer ∙ ap canvasAnswer e;
+          start = refl;
+          lasts = refl;
+          duration = refl;
+          start-delay = refl;
+          stop-delay = refl;
+          x1 = refl;
+          y1 = refl;
+          width = refl;
+          height = refl;
+          codes = refl;
           in-scratch = d .in-scratch ∙ ap (λ (y : Res Found). sets (b .scratch) 0 (scratchOf y)) (a .1) ∙ ap (λ (y : Form). sets (b .scratch) 0 (formStored y)) f;
           in-pixels = d .in-pixels ∙ ap (λ (y : Res Reading). sets (b .pixels) 0 (pixelsOf y)) e;
           in-words = d .in-words ∙ ap (λ (y : Res Reading). sets (b .words) 0 (bandsOf y)) e;

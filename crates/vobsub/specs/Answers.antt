@@ -64,18 +64,18 @@ pub record FoundPainted (u : List ℕ) (c : CueAnswer) (px ws cv : List ℕ) (r 
 
 -- what a reading shows
 unfoldable pub shownGiven : grammar-reading.Shown → Shown
-shownGiven s =
+shownGiven g =
     record {
-      start = s .start;
-      «has_duration» = given (s .duration);
-      duration = orZero (s .duration);
-      «start_delay» = s .start-delay;
-      «stop_delay» = s .stop-delay;
-      x1 = s .x1;
-      y1 = s .y1;
-      width = s .width;
-      height = s .height;
-      codes = s .codes;
+      start = g .start;
+      «has_duration» = given (g .duration);
+      duration = orZero (g .duration);
+      «start_delay» = g .start-delay;
+      «stop_delay» = g .stop-delay;
+      x1 = g .x1;
+      y1 = g .y1;
+      width = g .width;
+      height = g .height;
+      codes = g .codes;
     }
 
 abbrev pub canvasAnswer : Res Reading → CanvasAnswer

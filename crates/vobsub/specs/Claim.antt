@@ -6,9 +6,10 @@ use Prim.Native.Nat.{ℕ}
 use lib.ListN.{length}
 use lib.Seq.{sets}
 use Rattle.grammar.specs.Reading.{Wanted, Reading, IsReading, shown, mapOf, wordsOf, canvasOf, LongEnough}
+use Rattle.idx.specs.Answers.{given, orZero}
 use Rattle.ps.specs.Answers.{formStored}
 use Rattle.vobsub.specs.Call.{Lent}
-use Rattle.vobsub.specs.Answers.{shownGiven}
+use Rattle.vobsub.specs.declared.Shown.{Shown}
 use Rattle.vobsub.specs.declared.CanvasAnswer.{CanvasAnswer}
 use Rattle.vobsub.specs.declared.CanvasAnswer.the-variants as canvas-answer
 
@@ -23,7 +24,18 @@ Room x b = LongEnough x (length (b .scratch)) (length (b .pixels)) (length (b .w
 
 -- answer and buffers are what the reading gives, and past that each buffer is as found
 pub record Equal (x : Reading) (b : Lent) (r : CanvasAnswer) (b′ : Lent) : Type 0 where
-  pub results : r ≡ canvas-answer.Paints (shownGiven (shown x))
+  pub says : Shown
+  pub paints : r ≡ canvas-answer.Paints says
+  pub start : says .start ≡ shown x .start
+  pub lasts : says .«has_duration» ≡ given (shown x .duration)
+  pub duration : says .duration ≡ orZero (shown x .duration)
+  pub start-delay : says .«start_delay» ≡ shown x .start-delay
+  pub stop-delay : says .«stop_delay» ≡ shown x .stop-delay
+  pub x1 : says .x1 ≡ shown x .x1
+  pub y1 : says .y1 ≡ shown x .y1
+  pub width : says .width ≡ shown x .width
+  pub height : says .height ≡ shown x .height
+  pub codes : says .codes ≡ shown x .codes
   pub in-scratch : b′ .scratch ≡ sets (b .scratch) 0 (formStored (x .form))
   pub in-pixels : b′ .pixels ≡ sets (b .pixels) 0 (mapOf x)
   pub in-words : b′ .words ≡ sets (b .words) 0 (wordsOf x)

@@ -63,7 +63,14 @@ slice-aggregate-paint : tie.Need-slice-aggregate-paint
 slice-aggregate-paint c = sym (length-take-le (c .before .before .before .before .before .before .before .before .before .before .before .before .before .before .before .before .before .before .before .before .before .before .before .args .spu .«band_words») _ (omega (arith, c .before .before .before .before .before .before .before .before .before .before .before .before .if2 .left, c .before .before .before .before .before .before .before .before .decode-told .kept .1 .1 .1 .0)))
 
 paint-requires : tie.Need-paint-requires
-paint-requires c κs = search needs
+paint-requires c κs =
+    let w = known _ _ (c .before .before .before .before .before .before .before .before .before .before .before .before .before .before .before .before .before .before .before .before .before .before .before .before .before .pre) in
+    let a = w .wide in
+    let b = w .high in
+    let k = c .before .before .before .before .before .before .before .before .before .before .decode-told .kept .1 .1 .0 in
+    let m : c .before .before .before .before .before .before .before .before .before .before .before .before .before .before .before .before .before .before .before .before .before .before .before .before .before .args .spu .x2 < 65536 = omega (arith, c .before .before .before .before .before .before .before .before .before .before .before .before .before .before .before .before .before .before .before .before .struct-known .given .1 .1 .1 .1 .0) in
+    let n : c .before .before .before .before .before .before .before .before .before .before .before .before .before .before .before .before .before .before .before .before .before .before .before .before .before .args .spu .y2 < 65536 = omega (arith, c .before .before .before .before .before .before .before .before .before .before .before .before .before .before .before .before .before .before .before .before .struct-known .given .1 .1 .1 .1 .1 .0) in
+    (omega arith, omega arith, subst (λ (n : ℕ). (c .before .before .before .before .before .before .before .before .before .before .before .before .before .before .before .before .before .before .before .before .before .before .before .before .before .args .spu .x2 + 1 - c .before .before .before .before .before .before .before .before .before .before .before .before .before .before .before .before .before .before .before .before .before .before .before .before .before .args .spu .x1) * (c .before .before .before .before .before .before .before .before .before .before .before .before .before .before .before .before .before .before .before .before .before .before .before .before .before .args .spu .y2 + 1 - c .before .before .before .before .before .before .before .before .before .before .before .before .before .before .before .before .before .before .before .before .before .before .before .before .before .args .spu .y1) ≤ n) (sym k) (c .before .before .before .before .before .before .before .before .before .before .before .before .before .before .before .before .if1 .left), c .before .before .before .before .before .before .before .before .before .before .before .before .before .if3 .left)
 
 enum-known-number : tie.Need-enum-known-number
 enum-known-number c = search needs
