@@ -1,3 +1,4 @@
 pub mod Cards
 pub mod Unique
+pub mod UniqueControl
 pub mod IndexCards
