@@ -6,3 +6,4 @@ pub mod UniqueParts
 pub mod UniqueIndex
 pub mod UniqueReading
 pub mod IndexCards
+pub mod PaintCards

@@ -1,16 +1,16 @@
 -- No two lists pass: a place has one command and one block, a unit one chain of blocks, one list of rows, and so one listing.
 -- Assumes nothing.
-use Prim.Native.Nat.{ℕ, zero, suc, _+_, _*_, _≤_, _<_}
+use Prim.Native.Nat.{ℕ, suc, _+_, _*_, _≤_, _<_}
 use native.Mathlib.Omega.{arith}
-use mathlib.Core.Path.{_≡_, refl, sym, ap, ap₂, _∙_, subst}
+use mathlib.Core.Path.{_≡_, refl, sym, ap, ap₂, _∙_}
 use mathlib.Core.Logic.{_⊎_, inl, inr, ⊎-elim}
 use mathlib.Core.List.{List, [], _∷_}
-use lib.ListN.{length, drop, getD}
+use lib.ListN.{length, getD}
 use Rattle.grammar.specs.Bytes.{byte, word, nibbles}
 use Rattle.grammar.specs.Bands.{Band, Bands}
 use Rattle.grammar.specs.Control.{Order, forced-start, start, stop, selectors, alphas, area, offsets, colours, codeOf, Written, Command, commandEnd, IsCommand, CommandsEnd, Commands, Block, IsBlock, Chain, lengthWord, controlWord, IsChain}
 use Rattle.grammar.specs.Record.{Told, told, width}
-use Rattle.grammar.specs.Rows.{Code, FieldRows}
+use Rattle.grammar.specs.Rows.{Code}
 use Rattle.grammar.specs.Picture.{evens, odds, topEnd, Stay0, Bottom, IsPicture, ListedUnit, IsUnit}
 use Rattle.grammar.proofs.Unique.{bands-unique, field-unique}
 

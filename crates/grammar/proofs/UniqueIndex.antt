@@ -1,19 +1,18 @@
 -- No two lists of lines pass: bytes have one number, a line one list of parts, tokens and fields, and an index text one list of lines.
 -- Assumes nothing.
-use Prim.Native.Nat.{ℕ, zero, suc, _+_, _-_, _^_, _<_}
+use Prim.Native.Nat.{ℕ, zero, suc, _+_, _-_, _^_}
 use native.Mathlib.Omega.{arith}
 use mathlib.Core.Path.{_≡_, refl, sym, ap, ap₂, _∙_}
 use mathlib.Core.Logic.{_⊎_, inl, inr}
-use mathlib.Core.Bool.{Bool, true, false, not}
+use mathlib.Core.Bool.{false, not}
 use mathlib.Core.List.{List, [], _∷_, _++_}
 use lib.ListN.{length}
-use lib.Dec.{ltb}
 use lib.IntN.{ℤ, pos, negℤ}
 use Rattle.grammar.specs.Parts.{Part}
-use Rattle.grammar.specs.IndexParts.{parting, tokenByte, unlike, line-end, comma, colon, letter-x, All, Span, Trimmed, StartsWith, After}
-use Rattle.grammar.specs.IndexNumbers.{Valued, isDigit, numeral, Digits, Unsigned, Signed, zero-x, Stripped, Hex, top-position, Position}
+use Rattle.grammar.specs.IndexParts.{parting, tokenByte, line-end, comma, colon, letter-x, All, Span, Trimmed, After}
+use Rattle.grammar.specs.IndexNumbers.{Valued, isDigit, Digits, Unsigned, Signed, Stripped, Hex, top-position, Position}
 use Rattle.grammar.specs.Index.{Said, size, palette, timestamp, size-word, palette-word, timestamp-word, IsSize, top-side, top-token, IsToken, Tokens, Fields, IsFilepos, IsOtherPart, filepos-word, IsTimestamp, Says, SaysNothing, LinesListed, IsText}
-use Rattle.grammar.proofs.UniqueParts.{never, not-empty, head-same, tail-same, Both, all-rest, span-unique, trimmed-unique, all-trimmed-unique, has-separator, parted-unique, Sides, halves-unique, after-unique, first-unique, last-unique}
+use Rattle.grammar.proofs.UniqueParts.{never, not-empty, head-same, tail-same, all-rest, span-unique, trimmed-unique, all-trimmed-unique, has-separator, parted-unique, halves-unique, after-unique, first-unique, last-unique}
 
 -- ---- Numbers
 

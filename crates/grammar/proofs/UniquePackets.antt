@@ -1,14 +1,13 @@
 -- No two forms pass: a PES has one body, a place of a file one packet, and a position one form. Assumes nothing.
-use Prim.Native.Nat.{ℕ, _+_, _/_, _%_, _≤_, _<_}
+use Prim.Native.Nat.{ℕ, _+_, _/_, _%_, _≤_}
 use native.Mathlib.Omega.{arith, by-contra}
 use mathlib.Core.Path.{_≡_, refl, sym, ap, ap₂, _∙_}
 use mathlib.Core.Logic.{_⊎_, inl, inr}
-use mathlib.Core.Bool.{Bool, true}
+use mathlib.Core.Bool.{Bool}
 use mathlib.Core.Option.{Option, some, none}
 use mathlib.Core.List.{List, [], _∷_, _++_}
-use lib.Seq.{slice}
 use Rattle.grammar.specs.Bytes.{byte, word}
-use Rattle.grammar.specs.Packets.{Part, IsPart, Packet, Stuffing, bufferSize, stampSize, Header2, Header1, IsBody, lengthEnd, Keeps, IsPack, IsPrivate, IsOther, IsPacket, keptBytes, Complete, Packets, Form, bare, packets, IsForm}
+use Rattle.grammar.specs.Packets.{Part, IsPart, Packet, Stuffing, bufferSize, stampSize, Header2, Header1, IsBody, lengthEnd, Keeps, IsPack, IsPrivate, IsOther, IsPacket, keptBytes, Packets, Form, bare, packets, IsForm}
 
 part-unique : (f : List ℕ) (a e : ℕ) (p q : Part) → IsPart f a e p → IsPart f a e q → p ≡ q
 part-unique f a e p q h k = λ t. record { place = (h .place-is ∙ sym (k .place-is)) t; bytes = (h .bytes-are ∙ sym (k .bytes-are)) t }

@@ -1,15 +1,14 @@
 -- No two parts pass: spans, trimmed parts, parts between separators, what follows a word, the first and the last part. Assumes nothing.
 use Prim.Native.Nat.{ℕ, suc, _+_}
 use native.Mathlib.Omega.{arith}
-use mathlib.Core.Path.{_≡_, refl, sym, ap, ap₂, _∙_, subst}
-use mathlib.Core.Logic.{_⊎_, inl, inr}
+use mathlib.Core.Path.{_≡_, refl, sym, ap, ap₂, _∙_}
+use mathlib.Core.Logic.{inl, inr}
 use mathlib.Core.Bool.{Bool, true, false, not}
-use mathlib.Core.List.{List, [], _∷_, _++_, append-nil, append-cancel-left}
+use mathlib.Core.List.{List, [], _∷_, _++_, append-cancel-left}
 use lib.ListN.{length}
-use lib.Dec.{eqb}
 use borrow.Author.Tests.{eq-eqb}
 use Rattle.grammar.specs.Parts.{Part}
-use Rattle.grammar.specs.IndexParts.{blank, unlike, All, Stops, Ends, Span, Trimmed, AllTrimmed, Parted, StartsWith, After, Halves, First, NoneOf, Last}
+use Rattle.grammar.specs.IndexParts.{blank, unlike, All, Stops, Ends, Span, Trimmed, AllTrimmed, Parted, After, Halves, First, NoneOf, Last}
 
 -- true is not false
 pub never : (b : Bool) → b ≡ true → b ≡ false → ⊥
