@@ -5,5 +5,6 @@ pub mod UniquePackets
 pub mod UniqueParts
 pub mod UniqueIndex
 pub mod UniqueReading
+pub mod Readings
 pub mod IndexCards
 pub mod PaintCards
