@@ -5,6 +5,7 @@ pub mod UniquePackets
 pub mod UniqueParts
 pub mod UniqueIndex
 pub mod UniqueReading
+pub mod ReadingLine
 pub mod Readings
 pub mod IndexCards
 pub mod PaintCards

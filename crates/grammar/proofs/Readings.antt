@@ -2,118 +2,30 @@
 -- and a colour band (docs/GRAMMAR.md writes both out). Assumes nothing.
 use Prim.Native.Nat.{ℕ, _+_, _*_, _^_, _≤_, _<_}
 use native.Mathlib.Omega.{arith}
-use mathlib.Core.Path.{_≡_, refl, sym}
+use mathlib.Core.Path.{_≡_, refl}
 use mathlib.Core.Logic.{inl, inr}
-use mathlib.Core.Bool.{Bool, true, false, _&&_}
+use mathlib.Core.Bool.{true}
 use mathlib.Core.Option.{some, none}
-use mathlib.Core.List.{List, [], _∷_, _++_, append-nil}
-use lib.IntN.{ℤ, pos}
+use mathlib.Core.List.{List, [], _∷_, _++_}
+use lib.IntN.{pos}
 use lib.Dec.{ltb}
 use Rattle.grammar.specs.Bytes.{word, nibble, nibbles}
-use Rattle.grammar.specs.Parts.{Part}
-use Rattle.grammar.specs.IndexParts.{blank, parting, tokenByte, unlike, All, Stops, Ends, Trimmed}
-use Rattle.grammar.specs.IndexNumbers.{Valued, isDigit, numeral, Digits, Signed, Hex}
-use Rattle.grammar.specs.Index.{Said, palette, timestamp, startOf, top-token, IsTimestamp, Says, IsText}
+use Rattle.grammar.specs.IndexParts.{tokenByte, unlike}
+use Rattle.grammar.specs.IndexNumbers.{isDigit, numeral, Hex}
+use Rattle.grammar.specs.Index.{Said, palette, startOf, top-token, Says, IsText}
 use Rattle.grammar.specs.IndexCues.{cuesOf, coloursOf, paletteFrom, cueAt, durationOf}
-use Rattle.grammar.specs.Bands.{Bands, Entries, entryWords, bandWords}
+use Rattle.grammar.specs.Bands.{Band, Bands, Entries, entryWords, bandWords}
 use Rattle.grammar.specs.Control.{Order, start, selectors, alphas, area, offsets, colours, Command, Commands, Chain, IsChain}
 use Rattle.grammar.specs.Record.{untold, tellBlock, tellChain, told}
 use Rattle.grammar.specs.Look.{rightmost, lastLook, lookAt}
 use Rattle.grammar.specs.Rows.{code, IsCode, paints, RowCodes, afterCodes, align, FieldRows}
 use Rattle.grammar.specs.Pixels.{rowPixels, codesIn, indexMap}
-use Rattle.grammar.specs.Picture.{evens, topEnd, Stay0, IsPicture, ListedUnit, IsUnit}
-use Rattle.grammar.specs.Packets.{Packet, IsPacket, joined, Packets, bare, packets, unitOf, IsForm}
+use Rattle.grammar.specs.Picture.{evens, topEnd, Stay0, IsPicture, ListedUnit}
+use Rattle.grammar.specs.Packets.{Packet, subpicture, joined, Packets, bare, packets, unitOf, IsForm}
 use Rattle.grammar.specs.Canvas.{coloured, pixel, lineBytes, canvasBytes}
 use Rattle.grammar.specs.Reading.{Reading, IsReading, shown, mapOf, wordsOf, unitCanvas, canvasOf}
-use Rattle.grammar.proofs.UniqueParts.{not-empty, head-same, tail-same}
-
--- ---- Tests that every byte passes
-
-abbrev every : (ℕ → Bool) → List ℕ → Bool
-every p [] = true
-every p (b ∷ s) = p b && every p s
-
-both : (a b : Bool) → a && b ≡ true → (a ≡ true) × (b ≡ true)
-both true b h = (refl, h)
-both false b h = absurd (let n : _≡_ {A = ℕ} 0 1 = cc h in omega arith)
-
-all-of : (p : ℕ → Bool) (s : List ℕ) → every p s ≡ true → All p s
-all-of p [] h = tt
-all-of p (b ∷ s) h = (both (p b) (every p s) h .0, all-of p s (both (p b) (every p s) h .1))
-
-abbrev part : ℕ → List ℕ → Part
-part p b = record { place = p; bytes = b }
-
-abbrev valued : {A : Type 0} → ℕ → List ℕ → A → Valued A
-valued p b v = record { part = part p b; value = v }
-
--- ---- The line `timestamp: 00:00:01:000, filepos: 0` at a place of a text
-
-abbrev time : List ℕ
-time = 48 ∷ 48 ∷ 58 ∷ 48 ∷ 48 ∷ 58 ∷ 48 ∷ 49 ∷ 58 ∷ 48 ∷ 48 ∷ 48 ∷ []
-
-abbrev filepos : List ℕ
-filepos = 102 ∷ 105 ∷ 108 ∷ 101 ∷ 112 ∷ 111 ∷ 115 ∷ 58 ∷ 32 ∷ 48 ∷ []
-
-abbrev rest : List ℕ
-rest = 32 ∷ time ++ 44 ∷ 32 ∷ filepos
-
-abbrev line : List ℕ
-line = 116 ∷ 105 ∷ 109 ∷ 101 ∷ 115 ∷ 116 ∷ 97 ∷ 109 ∷ 112 ∷ 58 ∷ rest
-
-abbrev fields : ℕ → List (Valued ℤ)
-fields p = valued (p + 11) (48 ∷ 48 ∷ []) (pos 0) ∷ valued (p + 14) (48 ∷ 48 ∷ []) (pos 0) ∷ valued (p + 17) (48 ∷ 49 ∷ []) (pos 1) ∷ valued (p + 20) (48 ∷ 48 ∷ 48 ∷ []) (pos 0) ∷ []
-
-abbrev said : ℕ → Said
-said p = timestamp (part p line) (part (p + 11) time ∷ part (p + 25) filepos ∷ []) (fields p) (valued (p + 34) (48 ∷ []) 0)
-
--- a blank, and then a part with none at its ends
-after-blank : (p q : ℕ) (s : List ℕ) → q ≡ p + 1 → Stops blank s → Ends blank s → Trimmed (part p (32 ∷ s)) (part q s)
-after-blank p q s e h k =
-    record { before = 32 ∷ []; middle = s; after = []; leading = record { whole = refl; front = (refl, tt); stops = h }; rest = sym (append-nil s); trailing = tt; ends = k; place = e }
-
-two-digits : (a b v : ℕ) → every (isDigit 10) (a ∷ b ∷ []) ≡ true → v ≡ numeral 10 0 (a ∷ b ∷ []) → v ≤ 99 → Signed (a ∷ b ∷ []) (pos v)
-two-digits a b v d n l = inl (v, inl (record { some-digit = omega arith; all-digits = all-of (isDigit 10) (a ∷ b ∷ []) d; number = n; within = omega arith }), refl)
-
-stamped : (p : ℕ) → IsTimestamp (part (p + 10) rest) (part (p + 11) time ∷ part (p + 25) filepos ∷ []) (fields p) (valued (p + 34) (48 ∷ []) 0)
-unfolding startOf numeral
-stamped p =
-    record {
-      between = part (p + 10) (32 ∷ time) ∷ part (p + 24) (32 ∷ filepos) ∷ [];
-      by-commas = (refl, 32 ∷ filepos, refl, all-of (unlike 44) (32 ∷ time) refl, (omega arith, refl, all-of (unlike 44) (32 ∷ filepos) refl));
-      trimmed = (
-        after-blank (p + 10) (p + 11) time (omega arith) refl refl,
-        (after-blank (p + 24) (p + 25) filepos (omega arith) refl refl, tt),
-      );
-      time = part (p + 11) time;
-      first-other = inl (λ w. omega (arith, head-same 48 102 _ _ (w .1)), refl);
-      position = part (p + 25) filepos;
-      last-filepos = inl (inr (tt, (32 ∷ 48 ∷ [], refl), refl));
-      all-fields = part (p + 11) (48 ∷ 48 ∷ []) ∷ part (p + 14) (48 ∷ 48 ∷ []) ∷ part (p + 17) (48 ∷ 49 ∷ []) ∷ part (p + 20) (48 ∷ 48 ∷ 48 ∷ []) ∷ [];
-      by-colons = (
-        refl, 48 ∷ 48 ∷ 58 ∷ 48 ∷ 49 ∷ 58 ∷ 48 ∷ 48 ∷ 48 ∷ [], refl, (refl, (refl, tt)),
-        (omega arith, 48 ∷ 49 ∷ 58 ∷ 48 ∷ 48 ∷ 48 ∷ [], refl, (refl, (refl, tt)), (omega arith, 48 ∷ 48 ∷ 48 ∷ [], refl, (refl, (refl, tt)), (omega arith, refl, (refl, (refl, (refl, tt)))))),
-      );
-      first-four = (
-        refl, two-digits 48 48 0 refl refl (omega arith),
-        (refl, two-digits 48 48 0 refl refl (omega arith),
-        (refl, two-digits 48 49 1 refl refl (omega arith),
-        (refl, inl (0, inl (record { some-digit = omega arith; all-digits = (refl, (refl, (refl, tt))); number = refl; within = omega arith }), refl), tt))),
-      );
-      steps = record { hours = omega arith; to-minutes = omega arith; sixty = omega arith; to-seconds = omega arith; million = omega arith; millis = omega arith; start = omega arith };
-      text = part (p + 33) (32 ∷ 48 ∷ []);
-      after-word = record { whole = refl; place = omega arith };
-      trim-text = after-blank (p + 33) (p + 34) (48 ∷ []) (omega arith) refl refl;
-      reads = inl (0, 48 ∷ [], (refl, λ w. not-empty 120 _ (tail-same 48 48 [] _ (w .1))), inl (record { some-digit = omega arith; all-digits = (refl, tt); number = refl; within = omega arith }));
-    }
-
-says : (p : ℕ) → Says (part p line) (said p)
-says p = (refl, part (p + 10) rest, record { whole = refl; place = refl }, stamped p)
-
--- a part with no blank at its ends is trimmed
-trims : (i : Part) → Stops blank (i .bytes) → Ends blank (i .bytes) → Trimmed i i
-trims i h k =
-    record { before = []; middle = i .bytes; after = []; leading = record { whole = refl; front = tt; stops = h }; rest = sym (append-nil (i .bytes)); trailing = tt; ends = k; place = omega arith }
+use Rattle.grammar.proofs.UniqueParts.{head-same, tail-same}
+use Rattle.grammar.proofs.ReadingLine.{every, all-of, part, valued, line, said, says, trims}
 
 -- a code passes where its numbers do
 code-passes : (u : List ℕ) (e p k v : ℕ) → 1 ≤ k → k ≤ 4 → p + k ≤ 2 * e → v ≡ nibbles u p k → v < 4 * 4 ^ k → (k < 4 → 4 ^ k ≤ v) → IsCode u e (code p k v)
@@ -171,11 +83,21 @@ small-chain =
           delay-is = refl;
           next-is = refl;
           list = (
-            refl, record { within = omega arith; coded = refl; says = refl },
-            (refl, record { within = omega arith; coded = refl; says = refl },
-            (refl, record { within = omega arith; coded = refl; says = (refl, refl, refl, refl) },
-            (refl, record { within = omega arith; coded = refl; says = (refl, refl) },
-            (refl, record { within = omega arith; coded = refl; says = tt }, inr (omega arith, refl))))),
+            refl,
+            record { within = omega arith; coded = refl; says = refl },
+            (
+              refl,
+              record { within = omega arith; coded = refl; says = refl },
+              (
+                refl,
+                record { within = omega arith; coded = refl; says = (refl, refl, refl, refl) },
+                (
+                  refl,
+                  record { within = omega arith; coded = refl; says = (refl, refl) },
+                  (refl, record { within = omega arith; coded = refl; says = tt }, inr (omega arith, refl)),
+                ),
+              ),
+            ),
           );
         },
         inl (omega arith, refl),
@@ -234,3 +156,250 @@ small-words = refl
 small-canvas : canvasOf small ≡ 0 ∷ 0 ∷ 0 ∷ 255 ∷ 0 ∷ 0 ∷ 0 ∷ 255 ∷ 0 ∷ 0 ∷ 0 ∷ 255 ∷ 0 ∷ 0 ∷ 0 ∷ 255 ∷ []
 unfolding canvasOf unitCanvas paletteFrom untold tellBlock tellChain rowPixels paints canvasBytes lineBytes pixel coloured lookAt lastLook
 small-canvas = refl
+
+-- ---- A title in packet form, with a palette and a colour band: 2 by 1 at 4 2
+
+-- `palette: 102030,405060`, a line end, and the timestamp
+abbrev first-token : List ℕ
+first-token = 49 ∷ 48 ∷ 50 ∷ 48 ∷ 51 ∷ 48 ∷ []
+
+abbrev second-token : List ℕ
+second-token = 52 ∷ 48 ∷ 53 ∷ 48 ∷ 54 ∷ 48 ∷ []
+
+abbrev colour-rest : List ℕ
+colour-rest = 32 ∷ first-token ++ 44 ∷ second-token
+
+abbrev colour-line : List ℕ
+colour-line = 112 ∷ 97 ∷ 108 ∷ 101 ∷ 116 ∷ 116 ∷ 101 ∷ 58 ∷ colour-rest
+
+abbrev colour-said : Said
+colour-said = palette (part 0 colour-line) (valued 9 first-token 0x102030 ∷ valued 16 second-token 0x405060 ∷ [])
+
+abbrev pub packed-text : List ℕ
+packed-text = colour-line ++ 10 ∷ line
+
+-- the unit of 42 bytes
+abbrev packed-bytes : List ℕ
+packed-bytes =
+    0x00 ∷ 0x2A ∷ 0x00 ∷ 0x05 ∷ 0x56
+    ∷ 0x00 ∷ 0x03 ∷ 0x00 ∷ 0x05 ∷ 0x03 ∷ 0x01 ∷ 0x10 ∷ 0x04 ∷ 0x0F ∷ 0xF0 ∷ 0x05 ∷ 0x00 ∷ 0x40 ∷ 0x05 ∷ 0x00 ∷ 0x20 ∷ 0x02 ∷ 0x06 ∷ 0x00 ∷ 0x04 ∷ 0x00 ∷ 0x00
+    ∷ 0x07 ∷ 0x00 ∷ 0x0C ∷ 0x00 ∷ 0x02 ∷ 0x10 ∷ 0x02 ∷ 0x00 ∷ 0x05 ∷ 0x00 ∷ 0x00 ∷ 0x00 ∷ 0x80 ∷ 0x01 ∷ 0xFF
+    ∷ []
+
+-- a private_stream_1 packet of 46 bytes after its length: a header of three, the id, the unit
+abbrev pub packed-file : List ℕ
+packed-file = 0x00 ∷ 0x00 ∷ 0x01 ∷ 0xBD ∷ 0x00 ∷ 0x2E ∷ 0x80 ∷ 0x00 ∷ 0x00 ∷ 0x20 ∷ packed-bytes
+
+abbrev packed-packet : Packet
+packed-packet = record { place = 0; code = 0xBD; end = 52; kept = some (part 10 packed-bytes) }
+
+-- line 2, from column 5 on
+abbrev packed-band : Band
+packed-band =
+    record { place = 30; first = 2; last = 2; count = 1; entries = record { place = 34; column = 5; selectors = 0; alphas = 0x0080 } ∷ [] }
+
+abbrev packed-unit : ListedUnit
+packed-unit =
+    record {
+      blocks =
+          record {
+            place = 5;
+            delay = 3;
+            next = 5;
+            commands = command 9 (selectors 0x0110) ∷ command 12 (alphas 0x0FF0) ∷ command 15 (area 4 5 2 2) ∷ command 22 (offsets 4 0) ∷ command 27 (colours 12 (packed-band ∷ [])) ∷ command 40 start ∷ [];
+          }
+          ∷ [];
+      rows = (code 8 1 5 ∷ code 9 1 6 ∷ []) ∷ [];
+    }
+
+abbrev pub packed : Reading
+packed = record { lines = colour-said ∷ said 23 ∷ []; cue = 0; form = packets (packed-packet ∷ []); unit = packed-unit }
+
+-- six hexadecimal digits with no `0x` in front
+token-reads : (b c v : ℕ) (s : List ℕ) → (c ≡ 120 → ⊥) → every (isDigit 16) (b ∷ c ∷ s) ≡ true → v ≡ numeral 16 0 (b ∷ c ∷ s) → v ≤ top-token → Hex top-token (b ∷ c ∷ s) v
+token-reads b c v s d h n l = (
+  0,
+  b ∷ c ∷ s,
+  (refl, λ w. d (head-same c 120 _ _ (tail-same b 48 _ _ (w .1)))),
+  inl (record { some-digit = omega arith; all-digits = all-of (isDigit 16) (b ∷ c ∷ s) h; number = n; within = l }),
+)
+
+colour-says : Says (part 0 colour-line) colour-said
+unfolding numeral
+colour-says = (
+  refl,
+  part 8 colour-rest,
+  record { whole = refl; place = refl },
+  (
+    44 ∷ second-token,
+    record {
+      gap = 32 ∷ [];
+      middle = first-token ++ 44 ∷ second-token;
+      between = record { whole = refl; front = (refl, tt); stops = refl };
+      token = record { whole = refl; front = all-of tokenByte first-token refl; stops = refl };
+      place = refl;
+    },
+    token-reads 49 48 0x102030 (50 ∷ 48 ∷ 51 ∷ 48 ∷ []) (λ e. omega arith) refl refl (omega arith),
+    (
+      [],
+      record {
+        gap = 44 ∷ [];
+        middle = second-token;
+        between = record { whole = refl; front = (refl, tt); stops = refl };
+        token = record { whole = refl; front = all-of tokenByte second-token refl; stops = tt };
+        place = refl;
+      },
+      token-reads 52 48 0x405060 (53 ∷ 48 ∷ 54 ∷ 48 ∷ []) (λ e. omega arith) refl refl (omega arith),
+      tt,
+    ),
+  ),
+)
+
+packed-lines : IsText packed-text (colour-said ∷ said 23 ∷ [])
+packed-lines =
+    record {
+      low = all-of (λ b. ltb b 128) packed-text refl;
+      all-lines = part 0 colour-line ∷ part 23 line ∷ [];
+      parted = (refl, line, refl, all-of (unlike 10) colour-line refl, (refl, refl, all-of (unlike 10) line refl));
+      listed = (
+        part 0 colour-line,
+        trims (part 0 colour-line) refl refl,
+        inr (colour-says, (part 23 line, trims (part 23 line) refl refl, inr (says 23, tt))),
+      );
+    }
+
+packed-form : IsForm subpicture packed-file 0 (packets (packed-packet ∷ []))
+unfolding Packets word
+packed-form = (
+  λ h. omega (arith, h .least),
+  (
+    λ h. omega (arith, h .two),
+    refl,
+    record {
+      prefix-0 = refl;
+      prefix-1 = refl;
+      prefix-2 = refl;
+      code-is = refl;
+      inside = omega arith;
+      kind = inr (
+          inl (
+          record {
+            code-is = refl;
+            end-is = refl;
+            start = 9;
+            body = record { some-byte = omega arith; within = omega arith; header = inl (record { bits = refl; three = omega arith; body = refl }) };
+            keeps = (omega arith, refl, record { place-is = refl; bytes-are = refl });
+          }
+          )
+          );
+    },
+    record { two = omega arith; enough = omega arith },
+  ),
+)
+
+packed-bands : Bands packed-bytes 40 30 (packed-band ∷ [])
+unfolding word Entries Bands
+packed-bands = (
+  refl,
+  record {
+    within = omega arith;
+    no-mark = λ h. omega (arith, h .mark);
+    zero-nibble = omega arith;
+    first-is = refl;
+    count-is = refl;
+    last-is = refl;
+    order = omega arith;
+    all = refl;
+    list = (refl, record { within = omega arith; column-is = refl; selectors-are = refl; alphas-are = refl; rising = omega arith }, tt);
+  },
+  inl refl,
+)
+
+packed-chain : IsChain packed-bytes (packed-unit .blocks)
+unfolding word nibble nibbles Commands Chain
+packed-chain =
+    record {
+      head = omega arith;
+      control = omega arith;
+      order = omega arith;
+      inside = omega arith;
+      chain = (
+        refl,
+        record {
+          within = omega arith;
+          delay-is = refl;
+          next-is = refl;
+          list = (
+            refl,
+            record { within = omega arith; coded = refl; says = refl },
+            (
+              refl,
+              record { within = omega arith; coded = refl; says = refl },
+              (
+                refl,
+                record { within = omega arith; coded = refl; says = (refl, refl, refl, refl) },
+                (
+                  refl,
+                  record { within = omega arith; coded = refl; says = (refl, refl) },
+                  (
+                    refl,
+                    record { within = omega arith; coded = refl; says = (omega arith, refl, packed-bands) },
+                    (refl, record { within = omega arith; coded = refl; says = tt }, inr (omega arith, refl)),
+                  ),
+                ),
+              ),
+            ),
+          );
+        },
+        inl (omega arith, refl),
+      );
+    }
+
+packed-picture : IsPicture packed-bytes (told (packed-unit .blocks)) (packed-unit .rows)
+unfolding word nibble nibbles untold tellBlock tellChain evens topEnd Stay0 FieldRows RowCodes afterCodes align paints
+packed-picture =
+    record {
+      wide = omega arith;
+      high = omega arith;
+      all = refl;
+      top = (
+        (
+          omega arith,
+          refl,
+          code-passes packed-bytes 5 8 1 5 (omega arith) (omega arith) (omega arith) refl (omega arith) (λ h. omega arith),
+          (omega arith, refl, code-passes packed-bytes 5 9 1 6 (omega arith) (omega arith) (omega arith) refl (omega arith) (λ h. omega arith), refl),
+        ),
+        tt,
+      );
+      bottom = inr (inl refl, tt);
+    }
+
+pub packed-passes : IsReading packed-text packed-file (record { cue = 0 }) packed
+unfolding cuesOf cueAt startOf word joined unitOf
+packed-passes =
+    record {
+      text-is = packed-lines;
+      cue-is = refl;
+      at = record { start = pos 1000000; position = 0 };
+      listed = refl;
+      before-end = omega arith;
+      form-is = packed-form;
+      unit-is = record { chain = packed-chain; picture = packed-picture };
+    }
+
+-- the first pixel has the unit's own colours, the second, at column 5, the band's
+packed-shown : shown packed ≡ record { start = pos 1000000; duration = none; start-delay = 3; stop-delay = 0; x1 = 4; y1 = 2; width = 2; height = 1; codes = 2 }
+unfolding shown cuesOf cueAt durationOf startOf untold tellBlock tellChain codesIn
+packed-shown = refl
+
+packed-map : mapOf packed ≡ 1 ∷ 2 ∷ []
+unfolding mapOf untold tellBlock tellChain indexMap rowPixels paints
+packed-map = refl
+
+packed-words : wordsOf packed ≡ 2 ∷ 2 ∷ 1 ∷ 5 ∷ 0 ∷ 0x0080 ∷ []
+unfolding wordsOf untold tellBlock tellChain entryWords bandWords
+packed-words = refl
+
+packed-canvas : canvasOf packed ≡ 0x40 ∷ 0x50 ∷ 0x60 ∷ 0xFF ∷ 0x10 ∷ 0x20 ∷ 0x30 ∷ 0x88 ∷ []
+unfolding canvasOf unitCanvas coloursOf paletteFrom untold tellBlock tellChain rowPixels paints canvasBytes lineBytes pixel coloured lookAt lastLook rightmost
+packed-canvas = refl
