@@ -7,5 +7,6 @@ pub mod UniqueIndex
 pub mod UniqueReading
 pub mod ReadingLine
 pub mod Readings
+pub mod Edges
 pub mod IndexCards
 pub mod PaintCards

@@ -4,7 +4,7 @@
 use Prim.Native.Nat.{ℕ, _*_}
 use mathlib.Core.Path.{_≡_, refl}
 use mathlib.Core.Option.{Option, some, none}
-use mathlib.Core.List.{List, [], _∷_, _++_, map}
+use mathlib.Core.List.{List, [], _∷_, map}
 use lib.IntN.{ℤ, pos, negsuc}
 use Rattle.grammar.specs.Bytes.{word}
 use Rattle.grammar.specs.Parts.{Part}
@@ -12,14 +12,14 @@ use Rattle.grammar.specs.Bands.{Band, entryWords, bandWords}
 use Rattle.grammar.specs.Look.{Look, rightmost, lastLook, lookAt}
 use Rattle.grammar.specs.Control.{Order, start, stop, selectors, alphas, area, colours, Command, Block}
 use Rattle.grammar.specs.Record.{untold, tellBlock, tellChain, told}
-use Rattle.grammar.specs.Rows.{Code, code, paints}
+use Rattle.grammar.specs.Rows.{code, paints}
 use Rattle.grammar.specs.Pixels.{rowPixels, codesIn, indexMap}
-use Rattle.grammar.specs.Packets.{Packet, Form, bare, packets, joined, unitOf, scratchFor}
+use Rattle.grammar.specs.Packets.{Packet, bare, packets, joined, unitOf, scratchFor}
 use Rattle.grammar.specs.IndexNumbers.{Valued}
 use Rattle.grammar.specs.Index.{Said, palette, timestamp, startOf}
 use Rattle.grammar.specs.IndexCues.{cuesOf, coloursOf, paletteFrom, cueAt, durationOf}
-use Rattle.grammar.specs.Canvas.{nibbleOf, coloured, pixel, ownLook, toldLook, lineBytes, canvasBytes}
-use Rattle.grammar.specs.Reading.{Reading, toldBy, Shown, shown, mapOf, wordsOf, unitCanvas, canvasOf}
+use Rattle.grammar.specs.Canvas.{nibbleOf, coloured, pixel, toldLook, lineBytes, canvasBytes}
+use Rattle.grammar.specs.Reading.{Reading, Shown, shown, mapOf, wordsOf, unitCanvas, canvasOf}
 
 record Card : Type 0 where
   got : List ℕ

@@ -8,7 +8,7 @@ use mathlib.Core.Bool.{Bool, true, false, _&&_}
 use mathlib.Core.List.{List, [], _∷_, _++_, append-nil}
 use lib.IntN.{ℤ, pos}
 use Rattle.grammar.specs.Parts.{Part}
-use Rattle.grammar.specs.IndexParts.{blank, unlike, comma, All, Stops, Ends, Trimmed}
+use Rattle.grammar.specs.IndexParts.{blank, unlike, All, Stops, Ends, Trimmed}
 use Rattle.grammar.specs.IndexNumbers.{Valued, isDigit, numeral, Signed}
 use Rattle.grammar.specs.Index.{Said, timestamp, startOf, IsTimestamp, Says}
 use Rattle.grammar.proofs.UniqueParts.{not-empty, head-same, tail-same}
