@@ -1,6 +1,6 @@
 -- Two whole readings as closed terms, that they pass, and what they give: the 2 by 2 title, bare, and a title in packet form with a palette
 -- and a colour band (docs/GRAMMAR.md writes both out). Assumes nothing.
-use Prim.Native.Nat.{ℕ, _+_, _*_, _^_, _≤_, _<_}
+use Prim.Native.Nat.{ℕ, _≤_}
 use native.Mathlib.Omega.{arith}
 use mathlib.Core.Path.{_≡_, refl}
 use mathlib.Core.Logic.{inl, inr}
@@ -18,7 +18,7 @@ use Rattle.grammar.specs.Bands.{Band, Bands, Entries, entryWords, bandWo
 use Rattle.grammar.specs.Control.{Order, start, selectors, alphas, area, offsets, colours, Command, Commands, Chain, IsChain}
 use Rattle.grammar.specs.Record.{untold, tellBlock, tellChain, told}
 use Rattle.grammar.specs.Look.{rightmost, lastLook, lookAt}
-use Rattle.grammar.specs.Rows.{code, IsCode, paints, RowCodes, afterCodes, align, FieldRows}
+use Rattle.grammar.specs.Rows.{code, paints, RowCodes, afterCodes, align, FieldRows}
 use Rattle.grammar.specs.Pixels.{rowPixels, codesIn, indexMap}
 use Rattle.grammar.specs.Picture.{evens, topEnd, Stay0, IsPicture, ListedUnit}
 use Rattle.grammar.specs.Packets.{Packet, subpicture, joined, Packets, bare, packets, unitOf, IsForm}
@@ -26,10 +26,6 @@ use Rattle.grammar.specs.Canvas.{coloured, pixel, lineBytes, canvasBytes
 use Rattle.grammar.specs.Reading.{Reading, IsReading, shown, mapOf, wordsOf, unitCanvas, canvasOf}
 use Rattle.grammar.proofs.UniqueParts.{head-same, tail-same}
 use Rattle.grammar.proofs.ReadingLine.{every, all-of, part, valued, line, said, says, trims}
-
--- a code passes where its numbers do
-code-passes : (u : List ℕ) (e p k v : ℕ) → 1 ≤ k → k ≤ 4 → p + k ≤ 2 * e → v ≡ nibbles u p k → v < 4 * 4 ^ k → (k < 4 → 4 ^ k ≤ v) → IsCode u e (code p k v)
-code-passes u e p k v a b i n m l = record { one = a; four = b; inside = i; number = n; most = m; least = l }
 
 -- ---- The 2 by 2 title
 
@@ -111,7 +107,7 @@ small-picture =
       wide = omega arith;
       high = omega arith;
       all = refl;
-      top = ((omega arith, refl, code-passes small-file 6 8 4 1 (omega arith) (omega arith) (omega arith) refl (omega arith) (λ h. absurd (omega arith)), refl), tt);
+      top = ((omega arith, refl, record { one = omega arith; four = omega arith; inside = omega arith; number = refl; most = omega arith; least = λ h. omega arith }, refl), tt);
       bottom = inl (
         omega arith,
         omega arith,
@@ -119,8 +115,8 @@ small-picture =
           (
             omega arith,
             refl,
-            code-passes small-file 9 12 1 6 (omega arith) (omega arith) (omega arith) refl (omega arith) (λ h. omega arith),
-            (omega arith, refl, code-passes small-file 9 13 4 3 (omega arith) (omega arith) (omega arith) refl (omega arith) (λ h. absurd (omega arith)), refl),
+            record { one = omega arith; four = omega arith; inside = omega arith; number = refl; most = omega arith; least = λ h. omega arith },
+            (omega arith, refl, record { one = omega arith; four = omega arith; inside = omega arith; number = refl; most = omega arith; least = λ h. omega arith }, refl),
           ),
           tt,
         ),
@@ -366,8 +362,8 @@ packed-picture =
         (
           omega arith,
           refl,
-          code-passes packed-bytes 5 8 1 5 (omega arith) (omega arith) (omega arith) refl (omega arith) (λ h. omega arith),
-          (omega arith, refl, code-passes packed-bytes 5 9 1 6 (omega arith) (omega arith) (omega arith) refl (omega arith) (λ h. omega arith), refl),
+          record { one = omega arith; four = omega arith; inside = omega arith; number = refl; most = omega arith; least = λ h. omega arith },
+          (omega arith, refl, record { one = omega arith; four = omega arith; inside = omega arith; number = refl; most = omega arith; least = λ h. omega arith }, refl),
         ),
         tt,
       );
