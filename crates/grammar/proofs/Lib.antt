@@ -1,3 +1,12 @@
 pub mod Cards
 pub mod Unique
+pub mod UniqueControl
+pub mod UniquePackets
+pub mod UniqueParts
+pub mod UniqueIndex
+pub mod UniqueReading
+pub mod ReadingLine
+pub mod Readings
+pub mod Edges
 pub mod IndexCards
+pub mod PaintCards

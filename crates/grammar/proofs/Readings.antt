@@ -1,0 +1,401 @@
+-- Two whole readings as closed terms, that they pass, and what they give: the 2 by 2 title, bare, and a title in packet form with a palette
+-- and a colour band (docs/GRAMMAR.md writes both out). Assumes nothing.
+use Prim.Native.Nat.{ℕ, _≤_}
+use native.Mathlib.Omega.{arith}
+use mathlib.Core.Path.{_≡_, refl}
+use mathlib.Core.Logic.{inl, inr}
+use mathlib.Core.Bool.{true}
+use mathlib.Core.Option.{some, none}
+use mathlib.Core.List.{List, [], _∷_, _++_}
+use lib.IntN.{pos}
+use lib.Dec.{ltb}
+use Rattle.grammar.specs.Bytes.{word, nibble, nibbles}
+use Rattle.grammar.specs.IndexParts.{tokenByte, unlike}
+use Rattle.grammar.specs.IndexNumbers.{isDigit, numeral, Hex}
+use Rattle.grammar.specs.Index.{Said, palette, startOf, top-token, Says, IsText}
+use Rattle.grammar.specs.IndexCues.{cuesOf, coloursOf, paletteFrom, cueAt, durationOf}
+use Rattle.grammar.specs.Bands.{Band, Bands, Entries, entryWords, bandWords}
+use Rattle.grammar.specs.Control.{Order, start, selectors, alphas, area, offsets, colours, Command, Commands, Chain, IsChain}
+use Rattle.grammar.specs.Record.{untold, tellBlock, tellChain, told}
+use Rattle.grammar.specs.Look.{rightmost, lastLook, lookAt}
+use Rattle.grammar.specs.Rows.{code, paints, RowCodes, afterCodes, align, FieldRows}
+use Rattle.grammar.specs.Pixels.{rowPixels, codesIn, indexMap}
+use Rattle.grammar.specs.Picture.{evens, topEnd, Stay0, IsPicture, ListedUnit}
+use Rattle.grammar.specs.Packets.{Packet, subpicture, joined, Packets, bare, packets, unitOf, IsForm}
+use Rattle.grammar.specs.Canvas.{coloured, pixel, lineBytes, canvasBytes}
+use Rattle.grammar.specs.Reading.{Reading, IsReading, shown, mapOf, wordsOf, unitCanvas, canvasOf}
+use Rattle.grammar.proofs.UniqueParts.{head-same, tail-same}
+use Rattle.grammar.proofs.ReadingLine.{every, all-of, part, valued, line, said, says, trims}
+
+-- ---- The 2 by 2 title
+
+abbrev pub small-file : List ℕ
+small-file =
+    0x00 ∷ 0x21 ∷ 0x00 ∷ 0x09 ∷ 0x00 ∷ 0x01 ∷ 0x60 ∷ 0x00 ∷ 0x30
+    ∷ 0x00 ∷ 0x00 ∷ 0x00 ∷ 0x09 ∷ 0x03 ∷ 0x01 ∷ 0x32 ∷ 0x04 ∷ 0x0F ∷ 0xFF ∷ 0x05 ∷ 0x00 ∷ 0x00 ∷ 0x01 ∷ 0x00 ∷ 0x00 ∷ 0x01 ∷ 0x06 ∷ 0x00 ∷ 0x04 ∷ 0x00 ∷ 0x06 ∷ 0x01 ∷ 0xFF
+    ∷ []
+
+abbrev command : ℕ → Order → Command
+command p o = record { place = p; order = o }
+
+abbrev small-unit : ListedUnit
+small-unit =
+    record {
+      blocks =
+          record {
+            place = 9;
+            delay = 0;
+            next = 9;
+            commands = command 13 (selectors 0x0132) ∷ command 16 (alphas 0x0FFF) ∷ command 19 (area 0 1 0 1) ∷ command 26 (offsets 4 6) ∷ command 31 start ∷ [];
+          }
+          ∷ [];
+      rows = (code 8 4 1 ∷ []) ∷ (code 12 1 6 ∷ code 13 4 3 ∷ []) ∷ [];
+    }
+
+abbrev pub small : Reading
+small = record { lines = said 0 ∷ []; cue = 0; form = bare (part 0 small-file); unit = small-unit }
+
+small-text : IsText line (said 0 ∷ [])
+small-text =
+    record {
+      low = all-of (λ b. ltb b 128) line refl;
+      all-lines = part 0 line ∷ [];
+      parted = (refl, refl, all-of (unlike 10) line refl);
+      listed = (part 0 line, trims (part 0 line) refl refl, inr (says 0, tt));
+    }
+
+small-chain : IsChain small-file (small-unit .blocks)
+unfolding word nibble nibbles Commands Chain
+small-chain =
+    record {
+      head = omega arith;
+      control = omega arith;
+      order = omega arith;
+      inside = omega arith;
+      chain = (
+        refl,
+        record {
+          within = omega arith;
+          delay-is = refl;
+          next-is = refl;
+          list = (
+            refl,
+            record { within = omega arith; coded = refl; says = refl },
+            (
+              refl,
+              record { within = omega arith; coded = refl; says = refl },
+              (
+                refl,
+                record { within = omega arith; coded = refl; says = (refl, refl, refl, refl) },
+                (
+                  refl,
+                  record { within = omega arith; coded = refl; says = (refl, refl) },
+                  (refl, record { within = omega arith; coded = refl; says = tt }, inr (omega arith, refl)),
+                ),
+              ),
+            ),
+          );
+        },
+        inl (omega arith, refl),
+      );
+    }
+
+small-picture : IsPicture small-file (told (small-unit .blocks)) (small-unit .rows)
+unfolding word nibble nibbles untold tellBlock tellChain evens topEnd FieldRows RowCodes afterCodes align paints
+small-picture =
+    record {
+      wide = omega arith;
+      high = omega arith;
+      all = refl;
+      top = ((omega arith, refl, record { one = omega arith; four = omega arith; inside = omega arith; number = refl; most = omega arith; least = λ h. omega arith }, refl), tt);
+      bottom = inl (
+        omega arith,
+        omega arith,
+        (
+          (
+            omega arith,
+            refl,
+            record { one = omega arith; four = omega arith; inside = omega arith; number = refl; most = omega arith; least = λ h. omega arith },
+            (omega arith, refl, record { one = omega arith; four = omega arith; inside = omega arith; number = refl; most = omega arith; least = λ h. omega arith }, refl),
+          ),
+          tt,
+        ),
+      );
+    }
+
+pub small-passes : IsReading line small-file (record { cue = 0 }) small
+unfolding cuesOf cueAt startOf word unitOf
+small-passes =
+    record {
+      text-is = small-text;
+      cue-is = refl;
+      at = record { start = pos 1000000; position = 0 };
+      listed = refl;
+      before-end = omega arith;
+      form-is = (record { four = omega arith; least = omega arith; fits = omega arith }, record { place-is = refl; bytes-are = refl });
+      unit-is = record { chain = small-chain; picture = small-picture };
+    }
+
+-- start 1000000, no duration, origin 0 0, 2 by 2, three codes, map 1 1 2 3, no words, and a canvas of black that is not transparent
+small-shown : shown small ≡ record { start = pos 1000000; duration = none; start-delay = 0; stop-delay = 0; x1 = 0; y1 = 0; width = 2; height = 2; codes = 3 }
+unfolding shown cuesOf cueAt durationOf startOf untold tellBlock tellChain codesIn
+small-shown = refl
+
+small-map : mapOf small ≡ 1 ∷ 1 ∷ 2 ∷ 3 ∷ []
+unfolding mapOf untold tellBlock tellChain indexMap rowPixels paints
+small-map = refl
+
+small-words : wordsOf small ≡ []
+unfolding wordsOf untold tellBlock tellChain bandWords
+small-words = refl
+
+small-canvas : canvasOf small ≡ 0 ∷ 0 ∷ 0 ∷ 255 ∷ 0 ∷ 0 ∷ 0 ∷ 255 ∷ 0 ∷ 0 ∷ 0 ∷ 255 ∷ 0 ∷ 0 ∷ 0 ∷ 255 ∷ []
+unfolding canvasOf unitCanvas paletteFrom untold tellBlock tellChain rowPixels paints canvasBytes lineBytes pixel coloured lookAt lastLook
+small-canvas = refl
+
+-- ---- A title in packet form, with a palette and a colour band: 2 by 1 at 4 2
+
+-- `palette: 102030,405060`, a line end, and the timestamp
+abbrev first-token : List ℕ
+first-token = 49 ∷ 48 ∷ 50 ∷ 48 ∷ 51 ∷ 48 ∷ []
+
+abbrev second-token : List ℕ
+second-token = 52 ∷ 48 ∷ 53 ∷ 48 ∷ 54 ∷ 48 ∷ []
+
+abbrev colour-rest : List ℕ
+colour-rest = 32 ∷ first-token ++ 44 ∷ second-token
+
+abbrev colour-line : List ℕ
+colour-line = 112 ∷ 97 ∷ 108 ∷ 101 ∷ 116 ∷ 116 ∷ 101 ∷ 58 ∷ colour-rest
+
+abbrev colour-said : Said
+colour-said = palette (part 0 colour-line) (valued 9 first-token 0x102030 ∷ valued 16 second-token 0x405060 ∷ [])
+
+abbrev pub packed-text : List ℕ
+packed-text = colour-line ++ 10 ∷ line
+
+-- the unit of 42 bytes
+abbrev packed-bytes : List ℕ
+packed-bytes =
+    0x00 ∷ 0x2A ∷ 0x00 ∷ 0x05 ∷ 0x56
+    ∷ 0x00 ∷ 0x03 ∷ 0x00 ∷ 0x05 ∷ 0x03 ∷ 0x01 ∷ 0x10 ∷ 0x04 ∷ 0x0F ∷ 0xF0 ∷ 0x05 ∷ 0x00 ∷ 0x40 ∷ 0x05 ∷ 0x00 ∷ 0x20 ∷ 0x02 ∷ 0x06 ∷ 0x00 ∷ 0x04 ∷ 0x00 ∷ 0x00
+    ∷ 0x07 ∷ 0x00 ∷ 0x0C ∷ 0x00 ∷ 0x02 ∷ 0x10 ∷ 0x02 ∷ 0x00 ∷ 0x05 ∷ 0x00 ∷ 0x00 ∷ 0x00 ∷ 0x80 ∷ 0x01 ∷ 0xFF
+    ∷ []
+
+-- a private_stream_1 packet of 46 bytes after its length: a header of three, the id, the unit
+abbrev pub packed-file : List ℕ
+packed-file = 0x00 ∷ 0x00 ∷ 0x01 ∷ 0xBD ∷ 0x00 ∷ 0x2E ∷ 0x80 ∷ 0x00 ∷ 0x00 ∷ 0x20 ∷ packed-bytes
+
+abbrev packed-packet : Packet
+packed-packet = record { place = 0; code = 0xBD; end = 52; kept = some (part 10 packed-bytes) }
+
+-- line 2, from column 5 on
+abbrev packed-band : Band
+packed-band =
+    record { place = 30; first = 2; last = 2; count = 1; entries = record { place = 34; column = 5; selectors = 0; alphas = 0x0080 } ∷ [] }
+
+abbrev packed-unit : ListedUnit
+packed-unit =
+    record {
+      blocks =
+          record {
+            place = 5;
+            delay = 3;
+            next = 5;
+            commands = command 9 (selectors 0x0110) ∷ command 12 (alphas 0x0FF0) ∷ command 15 (area 4 5 2 2) ∷ command 22 (offsets 4 0) ∷ command 27 (colours 12 (packed-band ∷ [])) ∷ command 40 start ∷ [];
+          }
+          ∷ [];
+      rows = (code 8 1 5 ∷ code 9 1 6 ∷ []) ∷ [];
+    }
+
+abbrev pub packed : Reading
+packed = record { lines = colour-said ∷ said 23 ∷ []; cue = 0; form = packets (packed-packet ∷ []); unit = packed-unit }
+
+-- six hexadecimal digits with no `0x` in front
+token-reads : (b c v : ℕ) (s : List ℕ) → (c ≡ 120 → ⊥) → every (isDigit 16) (b ∷ c ∷ s) ≡ true → v ≡ numeral 16 0 (b ∷ c ∷ s) → v ≤ top-token → Hex top-token (b ∷ c ∷ s) v
+token-reads b c v s d h n l = (
+  0,
+  b ∷ c ∷ s,
+  (refl, λ w. d (head-same c 120 _ _ (tail-same b 48 _ _ (w .1)))),
+  inl (record { some-digit = omega arith; all-digits = all-of (isDigit 16) (b ∷ c ∷ s) h; number = n; within = l }),
+)
+
+colour-says : Says (part 0 colour-line) colour-said
+unfolding numeral
+colour-says = (
+  refl,
+  part 8 colour-rest,
+  record { whole = refl; place = refl },
+  (
+    44 ∷ second-token,
+    record {
+      gap = 32 ∷ [];
+      middle = first-token ++ 44 ∷ second-token;
+      between = record { whole = refl; front = (refl, tt); stops = refl };
+      token = record { whole = refl; front = all-of tokenByte first-token refl; stops = refl };
+      place = refl;
+    },
+    token-reads 49 48 0x102030 (50 ∷ 48 ∷ 51 ∷ 48 ∷ []) (λ e. omega arith) refl refl (omega arith),
+    (
+      [],
+      record {
+        gap = 44 ∷ [];
+        middle = second-token;
+        between = record { whole = refl; front = (refl, tt); stops = refl };
+        token = record { whole = refl; front = all-of tokenByte second-token refl; stops = tt };
+        place = refl;
+      },
+      token-reads 52 48 0x405060 (53 ∷ 48 ∷ 54 ∷ 48 ∷ []) (λ e. omega arith) refl refl (omega arith),
+      tt,
+    ),
+  ),
+)
+
+packed-lines : IsText packed-text (colour-said ∷ said 23 ∷ [])
+packed-lines =
+    record {
+      low = all-of (λ b. ltb b 128) packed-text refl;
+      all-lines = part 0 colour-line ∷ part 23 line ∷ [];
+      parted = (refl, line, refl, all-of (unlike 10) colour-line refl, (refl, refl, all-of (unlike 10) line refl));
+      listed = (
+        part 0 colour-line,
+        trims (part 0 colour-line) refl refl,
+        inr (colour-says, (part 23 line, trims (part 23 line) refl refl, inr (says 23, tt))),
+      );
+    }
+
+packed-form : IsForm subpicture packed-file 0 (packets (packed-packet ∷ []))
+unfolding Packets word
+packed-form = (
+  λ h. omega (arith, h .least),
+  (
+    λ h. omega (arith, h .two),
+    refl,
+    record {
+      prefix-0 = refl;
+      prefix-1 = refl;
+      prefix-2 = refl;
+      code-is = refl;
+      inside = omega arith;
+      kind = inr (
+          inl (
+          record {
+            code-is = refl;
+            end-is = refl;
+            start = 9;
+            body = record { some-byte = omega arith; within = omega arith; header = inl (record { bits = refl; three = omega arith; body = refl }) };
+            keeps = (omega arith, refl, record { place-is = refl; bytes-are = refl });
+          }
+          )
+          );
+    },
+    record { two = omega arith; enough = omega arith },
+  ),
+)
+
+packed-bands : Bands packed-bytes 40 30 (packed-band ∷ [])
+unfolding word Entries Bands
+packed-bands = (
+  refl,
+  record {
+    within = omega arith;
+    no-mark = λ h. omega (arith, h .mark);
+    zero-nibble = omega arith;
+    first-is = refl;
+    count-is = refl;
+    last-is = refl;
+    order = omega arith;
+    all = refl;
+    list = (refl, record { within = omega arith; column-is = refl; selectors-are = refl; alphas-are = refl; rising = omega arith }, tt);
+  },
+  inl refl,
+)
+
+packed-chain : IsChain packed-bytes (packed-unit .blocks)
+unfolding word nibble nibbles Commands Chain
+packed-chain =
+    record {
+      head = omega arith;
+      control = omega arith;
+      order = omega arith;
+      inside = omega arith;
+      chain = (
+        refl,
+        record {
+          within = omega arith;
+          delay-is = refl;
+          next-is = refl;
+          list = (
+            refl,
+            record { within = omega arith; coded = refl; says = refl },
+            (
+              refl,
+              record { within = omega arith; coded = refl; says = refl },
+              (
+                refl,
+                record { within = omega arith; coded = refl; says = (refl, refl, refl, refl) },
+                (
+                  refl,
+                  record { within = omega arith; coded = refl; says = (refl, refl) },
+                  (
+                    refl,
+                    record { within = omega arith; coded = refl; says = (omega arith, refl, packed-bands) },
+                    (refl, record { within = omega arith; coded = refl; says = tt }, inr (omega arith, refl)),
+                  ),
+                ),
+              ),
+            ),
+          );
+        },
+        inl (omega arith, refl),
+      );
+    }
+
+packed-picture : IsPicture packed-bytes (told (packed-unit .blocks)) (packed-unit .rows)
+unfolding word nibble nibbles untold tellBlock tellChain evens topEnd Stay0 FieldRows RowCodes afterCodes align paints
+packed-picture =
+    record {
+      wide = omega arith;
+      high = omega arith;
+      all = refl;
+      top = (
+        (
+          omega arith,
+          refl,
+          record { one = omega arith; four = omega arith; inside = omega arith; number = refl; most = omega arith; least = λ h. omega arith },
+          (omega arith, refl, record { one = omega arith; four = omega arith; inside = omega arith; number = refl; most = omega arith; least = λ h. omega arith }, refl),
+        ),
+        tt,
+      );
+      bottom = inr (inl refl, tt);
+    }
+
+pub packed-passes : IsReading packed-text packed-file (record { cue = 0 }) packed
+unfolding cuesOf cueAt startOf word joined unitOf
+packed-passes =
+    record {
+      text-is = packed-lines;
+      cue-is = refl;
+      at = record { start = pos 1000000; position = 0 };
+      listed = refl;
+      before-end = omega arith;
+      form-is = packed-form;
+      unit-is = record { chain = packed-chain; picture = packed-picture };
+    }
+
+-- the first pixel has the unit's own colours, the second, at column 5, the band's
+packed-shown : shown packed ≡ record { start = pos 1000000; duration = none; start-delay = 3; stop-delay = 0; x1 = 4; y1 = 2; width = 2; height = 1; codes = 2 }
+unfolding shown cuesOf cueAt durationOf startOf untold tellBlock tellChain codesIn
+packed-shown = refl
+
+packed-map : mapOf packed ≡ 1 ∷ 2 ∷ []
+unfolding mapOf untold tellBlock tellChain indexMap rowPixels paints
+packed-map = refl
+
+packed-words : wordsOf packed ≡ 2 ∷ 2 ∷ 1 ∷ 5 ∷ 0 ∷ 0x0080 ∷ []
+unfolding wordsOf untold tellBlock tellChain entryWords bandWords
+packed-words = refl
+
+packed-canvas : canvasOf packed ≡ 0x40 ∷ 0x50 ∷ 0x60 ∷ 0xFF ∷ 0x10 ∷ 0x20 ∷ 0x30 ∷ 0x88 ∷ []
+unfolding canvasOf unitCanvas coloursOf paletteFrom untold tellBlock tellChain rowPixels paints canvasBytes lineBytes pixel coloured lookAt lastLook rightmost
+packed-canvas = refl
