@@ -239,7 +239,7 @@ fn inner_entries(p: &[u8], count: u16, least: u32, out: &mut [u16], from: usize)
                 put3(out, at, col, selectors, alphas);
                 i += 6;
                 at += 3;
-                left -= 1;
+                left = left - 1;
                 lo = col as u32 + 1;
             }
         }
