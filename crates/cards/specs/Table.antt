@@ -2,6 +2,7 @@
 -- Assumes nothing: these are definitions.
 use Prim.Native.Nat.{ℕ, _*_}
 use mathlib.Core.Bool.{cond}
+use mathlib.Core.Option.{Option, some, none}
 use mathlib.Core.List.{List, [], _∷_, _++_}
 use lib.ListN.{length, replicate}
 use lib.IntN.{natAbs}
@@ -23,6 +24,8 @@ use Rattle.control.specs.Answers.{spuOf}
 use Rattle.control.specs.declared.Spu.{Spu}
 use Rattle.ps.specs.Packets.{formAt}
 use Rattle.spu.specs.Unit.{unitAt}
+use Rattle.grammar.specs.Reading.{Shown, shown, canvasOf}
+use Rattle.vobsub.specs.Call.{wanted, Lent, lent, readingIn}
 use Rattle.demo.specs.Codes.{lastMarks, packed}
 use Rattle.demo.specs.Unit.{topNibbles, demoAt}
 
@@ -83,7 +86,7 @@ blocks =
     ∷ record { place = 1; delay = 9; next = 0; commands = command 5 stop ∷ [] }
     ∷ []
 
--- a record, field by field in its order
+-- a record, field by field
 abbrev pub fieldsOf : Spu → List ℕ
 fieldsOf s =
     s .x1 ∷ s .y1 ∷ s .x2 ∷ s .y2 ∷ s .«palette_sel» ∷ s .alpha ∷ cond (s .started) 1 0 ∷ s .«start_delay_raw» ∷ cond (s .stopped) 1 0 ∷ s .«stop_delay_raw»
@@ -96,12 +99,42 @@ position s = outcome (λ v. v ∷ []) (need bad-position (positionOf s))
 unfoldable pub start : List ℕ → List ℕ
 start s = outcome (λ z. natAbs z ∷ []) (timeAt (split colon 0 s))
 
+-- the first cue of a text and a file, with so much of each buffer lent: start, whether it lasts and how long, both delays, origin, size, the number
+-- of codes, and the canvas
+abbrev lasting : Option ℕ → List ℕ
+lasting none = 0 ∷ []
+lasting (some d) = 1 ∷ d ∷ []
+
+abbrev pub shows : Shown → List ℕ
+shows s = natAbs (s .start) ∷ lasting (s .duration) ++ s .start-delay ∷ s .stop-delay ∷ s .x1 ∷ s .y1 ∷ s .width ∷ s .height ∷ s .codes ∷ []
+
+unfoldable pub cue : List ℕ → List ℕ → Lent → List ℕ
+cue text file b = outcome (λ r. shows (shown r) ++ canvasOf r) (readingIn text file (wanted 0) b)
+
+-- `timestamp: 00:00:01:000, filepos: 0`
+abbrev stamp : List ℕ
+stamp =
+    116 ∷ 105 ∷ 109 ∷ 101 ∷ 115 ∷ 116 ∷ 97 ∷ 109 ∷ 112 ∷ 58 ∷ 32 ∷ 48 ∷ 48 ∷ 58 ∷ 48 ∷ 48 ∷ 58 ∷ 48 ∷ 49 ∷ 58 ∷ 48 ∷ 48 ∷ 48 ∷ 44 ∷ 32 ∷ 102 ∷ 105 ∷ 108 ∷ 101 ∷ 112 ∷ 111 ∷ 115 ∷ 58
+    ∷ 32 ∷ 48 ∷ []
+
+-- 2 by 2, 1 1 2 3
+abbrev two-by-two : List ℕ
+two-by-two =
+    0x00 ∷ 0x21 ∷ 0x00 ∷ 0x09 ∷ 0x00 ∷ 0x01 ∷ 0x60 ∷ 0x00 ∷ 0x30 ∷ 0x00 ∷ 0x00 ∷ 0x00 ∷ 0x09 ∷ 0x03 ∷ 0x01 ∷ 0x32 ∷ 0x04 ∷ 0x0F ∷ 0xFF ∷ 0x05 ∷ 0x00 ∷ 0x00 ∷ 0x01 ∷ 0x00 ∷ 0x00
+    ∷ 0x01 ∷ 0x06 ∷ 0x00 ∷ 0x04 ∷ 0x00 ∷ 0x06 ∷ 0x01 ∷ 0xFF ∷ []
+
 -- the digits 256204778, and one more
 abbrev pub hours : ℕ → List ℕ
 hours d = 50 ∷ 53 ∷ 54 ∷ 50 ∷ 48 ∷ 52 ∷ 55 ∷ 55 ∷ 56 ∷ d ∷ []
 
-unfoldable pub table : List Card
-table =
+-- a whole title, with exactly what it needs of each buffer (FORMAT 6)
+abbrev pub title : Card
+title =
+    card (cue stamp two-by-two (lent [] (replicate 4 9) [] (replicate 16 9)))
+    (0 ∷ 1000000 ∷ 0 ∷ 0 ∷ 0 ∷ 0 ∷ 0 ∷ 2 ∷ 2 ∷ 3 ∷ 0 ∷ 0 ∷ 0 ∷ 255 ∷ 0 ∷ 0 ∷ 0 ∷ 255 ∷ 0 ∷ 0 ∷ 0 ∷ 255 ∷ 0 ∷ 0 ∷ 0 ∷ 255 ∷ [])
+
+unfoldable pub parts : List Card
+parts =
     -- each length of code at its least and its greatest run, and a fill (FORMAT 5.2 to 5.4)
     card (code (0xF0 ∷ [])) (0 ∷ 1 ∷ 3 ∷ 3 ∷ [])
     ∷ card (code (0x10 ∷ [])) (0 ∷ 2 ∷ 4 ∷ 0 ∷ [])
@@ -125,11 +158,7 @@ table =
     ∷ card (unit (0x00 ∷ 0x04 ∷ 0x00 ∷ 0x05 ∷ [])) (16 ∷ [])
     ∷ card (unit []) (15 ∷ [])
     -- 2 by 2, 1 1 2 3, as a whole unit: selectors 0 1 3 2, alphas 0 F F F
-    ∷ card
-    (unit
-    (0x00 ∷ 0x21 ∷ 0x00 ∷ 0x09 ∷ 0x00 ∷ 0x01 ∷ 0x60 ∷ 0x00 ∷ 0x30 ∷ 0x00 ∷ 0x00 ∷ 0x00 ∷ 0x09 ∷ 0x03 ∷ 0x01 ∷ 0x32 ∷ 0x04 ∷ 0x0F ∷ 0xFF ∷ 0x05 ∷ 0x00 ∷ 0x00 ∷ 0x01 ∷ 0x00 ∷ 0x00
-    ∷ 0x01 ∷ 0x06 ∷ 0x00 ∷ 0x04 ∷ 0x00 ∷ 0x06 ∷ 0x01 ∷ 0xFF ∷ []))
-    (0 ∷ 2 ∷ 2 ∷ 0x0132 ∷ 0x0FFF ∷ 0 ∷ 0 ∷ 3 ∷ 1 ∷ 1 ∷ 2 ∷ 3 ∷ [])
+    ∷ card (unit two-by-two) (0 ∷ 2 ∷ 2 ∷ 0x0132 ∷ 0x0FFF ∷ 0 ∷ 0 ∷ 3 ∷ 1 ∷ 1 ∷ 2 ∷ 3 ∷ [])
     -- a unit bare; one kept by a packet; a packet that keeps two bytes 0, and so an empty unit; no packet, and no file
     ∷ card (found (0x00 ∷ 0x04 ∷ 0x00 ∷ 0x04 ∷ [])) (0 ∷ 0x00 ∷ 0x04 ∷ 0x00 ∷ 0x04 ∷ [])
     ∷ card (found (0x00 ∷ 0x00 ∷ 0x01 ∷ 0xBD ∷ 0x00 ∷ 0x08 ∷ 0x80 ∷ 0x00 ∷ 0x00 ∷ 0x20 ∷ 0x00 ∷ 0x04 ∷ 0x00 ∷ 0x04 ∷ [])) (0 ∷ 0x00 ∷ 0x04 ∷ 0x00 ∷ 0x04 ∷ [])
@@ -145,9 +174,12 @@ table =
     ∷ card (start (hours 56)) (0 ∷ 9223372036800000000 ∷ [])
     ∷ card (start (hours 57)) (8 ∷ [])
     -- a written unit; a run of 64 before the row's end, and the fill at it; a side of 0, an index too few, an index of 4
-    ∷ card (written 2 2 (1 ∷ 1 ∷ 2 ∷ 3 ∷ [])) (0 ∷ 0x00 ∷ 0x21 ∷ 0x00 ∷ 0x09 ∷ 0x00 ∷ 0x01 ∷ 0x60 ∷ 0x00 ∷ 0x30 ∷ 0x00 ∷ 0x00 ∷ 0x00 ∷ 0x09 ∷ 0x03 ∷ 0x01 ∷ 0x32 ∷ 0x04 ∷ 0x0F ∷ 0xFF ∷ 0x05 ∷ 0x00 ∷ 0x00 ∷ 0x01 ∷ 0x00 ∷ 0x00 ∷ 0x01 ∷ 0x06 ∷ 0x00 ∷ 0x04 ∷ 0x00 ∷ 0x06 ∷ 0x01 ∷ 0xFF ∷ [])
+    ∷ card (written 2 2 (1 ∷ 1 ∷ 2 ∷ 3 ∷ [])) (0 ∷ two-by-two)
     ∷ card (upper 65 1 (replicate 64 1 ++ (2 ∷ []))) (0x01 ∷ 0x01 ∷ 0x00 ∷ 0x02 ∷ [])
     ∷ card (written 0 1 []) (27 ∷ [])
     ∷ card (written 2 1 (0 ∷ [])) (28 ∷ [])
     ∷ card (written 1 1 (4 ∷ [])) (29 ∷ [])
     ∷ []
+
+abbrev pub table : List Card
+table = title ∷ parts

@@ -137,7 +137,7 @@ small-passes =
     }
 
 -- start 1000000, no duration, origin 0 0, 2 by 2, three codes, map 1 1 2 3, no words, and a canvas of black that is not transparent
-small-shown : shown small ≡ record { start = pos 1000000; duration = none; start-delay = 0; stop-delay = 0; x1 = 0; y1 = 0; width = 2; height = 2; codes = 3 }
+pub small-shown : shown small ≡ record { start = pos 1000000; duration = none; start-delay = 0; stop-delay = 0; x1 = 0; y1 = 0; width = 2; height = 2; codes = 3 }
 unfolding shown cuesOf cueAt durationOf startOf untold tellBlock tellChain codesIn
 small-shown = refl
 
@@ -145,11 +145,11 @@ small-map : mapOf small ≡ 1 ∷ 1 ∷ 2 ∷ 3 ∷ []
 unfolding mapOf untold tellBlock tellChain indexMap rowPixels paints
 small-map = refl
 
-small-words : wordsOf small ≡ []
+pub small-words : wordsOf small ≡ []
 unfolding wordsOf untold tellBlock tellChain bandWords
 small-words = refl
 
-small-canvas : canvasOf small ≡ 0 ∷ 0 ∷ 0 ∷ 255 ∷ 0 ∷ 0 ∷ 0 ∷ 255 ∷ 0 ∷ 0 ∷ 0 ∷ 255 ∷ 0 ∷ 0 ∷ 0 ∷ 255 ∷ []
+pub small-canvas : canvasOf small ≡ 0 ∷ 0 ∷ 0 ∷ 255 ∷ 0 ∷ 0 ∷ 0 ∷ 255 ∷ 0 ∷ 0 ∷ 0 ∷ 255 ∷ 0 ∷ 0 ∷ 0 ∷ 255 ∷ []
 unfolding canvasOf unitCanvas paletteFrom untold tellBlock tellChain rowPixels paints canvasBytes lineBytes pixel coloured lookAt lastLook
 small-canvas = refl
 
