@@ -18,6 +18,7 @@ pub const CLASS: Class = Class {
     compare,
     refusals: &[1, 2, 3, 4, 5, 6, 7, 8, 9, 11, 12, 13, 14, 15, 16, 17, 18, 19, 20, 21, 22, 23, 24, 25, 26],
     accepted: true,
+    dear: 4,
 };
 
 const HEAD: usize = 6;

@@ -5,7 +5,7 @@ use crate::port;
 use crate::random::Random;
 use crate::side::{Side, Spot};
 
-pub const CLASS: Class = Class { name: "packets", fixed, generate, compare, refusals: &[12, 13, 14], accepted: true };
+pub const CLASS: Class = Class { name: "packets", fixed, generate, compare, refusals: &[12, 13, 14], accepted: true, dear: 1 };
 
 fn fixed(world: &World, each: &mut dyn FnMut(Request)) {
     for (file, unit) in world.files.iter().zip(&world.units) {
