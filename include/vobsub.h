@@ -124,7 +124,7 @@ enum vobsub_shown_number {
    in microseconds; numbers has VOBSUB_SHOWN_NUMBERS numbers, and gets those of the cue. start and numbers are not null, and the eight regions
    do not overlap. Of canvas 4 * width * height bytes are written, of pixels width * height, of words and scratch as many as the bands and the
    joined unit take. On a refusal (1 to 9, 11 to 26) all are as they were, but that after 15 to 26 a unit that packets hold is in the front of
-   scratch. A unit has 65535 bytes at most, a picture 4096 by 4096 pixels. It takes up to 257 KiB of stack. */
+   scratch. A unit has 65535 bytes at most, a picture 4096 by 4096 pixels. It takes up to 262 KiB of stack. */
 uint8_t vobsub_decode_cue(const uint8_t *text, size_t text_len,
                           const uint8_t *file, size_t file_len,
                           size_t cue,
