@@ -141,14 +141,13 @@ const LINES: [&str; 8] = [
 
 fn fault(r: &mut Random) -> Fault {
     use Fault::*;
-    if r.once_in(2) {
-        return None;
-    }
-    match r.below(31) {
-        i @ 0..8 => Line(i),
-        i => *r.pick(&[[
-            Under4, WrongC, Parameters, SmallS, NoBands, Unknown, Inverted, Offset, RanOut, HighByte, NoCue, Past, NoUnit, Scratch, Pixels, Words, Canvas, FileDamaged, TextDamaged, FarApart, Cut, OtherPlace, RanOut,
-        ][i - 8]]),
+    const FAULTS: [Fault; 22] = [
+        Under4, WrongC, Parameters, SmallS, NoBands, Unknown, Inverted, Offset, RanOut, HighByte, NoCue, Past, NoUnit, Scratch, Pixels, Words, Canvas, FileDamaged, TextDamaged, FarApart, Cut, OtherPlace,
+    ];
+    match r.below(2 * (LINES.len() + FAULTS.len())) {
+        i if i < LINES.len() => Line(i),
+        i if i < LINES.len() + FAULTS.len() => FAULTS[i - LINES.len()],
+        _ => None,
     }
 }
 
@@ -162,22 +161,16 @@ fn banded(r: &mut Random, fault: Fault) -> Vec<u8> {
     let bottom = bytes.len();
     bytes.extend(field::rows(r, width, height / 2));
     let control = bytes.len();
-    let mut offset = 0;
+    let (mut offset, mut before) = (0, None);
     for block in 0..r.within(1, 3) {
         let start = bytes.len();
+        if let Some(before) = before.replace(start) {
+            set_word(&mut bytes, before + 2, start);
+        }
         let delay = r.below(65536);
         put(&mut bytes, delay);
+        // the last block names itself
         put(&mut bytes, start);
-        if block > 0 {
-            let at = bytes.len() - 4;
-            // the block before goes on here
-            for before in (control..at).rev() {
-                if bytes[before..before + 4] == [bytes[before], bytes[before + 1], (before / 256) as u8, before as u8] {
-                    set_word(&mut bytes, before + 2, at);
-                    break;
-                }
-            }
-        }
         if block == 0 || r.once_in(4) {
             bytes.push(0x03);
             bytes.extend(nibbles(r));
