@@ -105,6 +105,36 @@ uint8_t vobsub_pick_cue(const uint8_t *text, size_t text_len,
                         uint8_t palette[VOBSUB_PALETTE],
                         uint64_t numbers[VOBSUB_CUE_NUMBERS]);
 
+/* Places of the numbers of a painted cue: whether another cue follows (1) or none (0), the microseconds up to that one, 0 where none follows,
+   the delays of the unit's first start and last stop (both in 1024/90000 of a second, 0 where there is none), the place of the first pixel on
+   the display, the size, the number of codes read. */
+enum vobsub_shown_number {
+    VOBSUB_SHOWN_HAS_DURATION, VOBSUB_SHOWN_DURATION,
+    VOBSUB_SHOWN_START_DELAY, VOBSUB_SHOWN_STOP_DELAY,
+    VOBSUB_SHOWN_X1, VOBSUB_SHOWN_Y1,
+    VOBSUB_SHOWN_WIDTH, VOBSUB_SHOWN_HEIGHT,
+    VOBSUB_SHOWN_CODES,
+    VOBSUB_SHOWN_NUMBERS
+};
+
+/* Paints one cue of a title: text has the text_len bytes of its .idx file, file the file_len bytes of its .sub file; cues are numbered from 0,
+   and cue may be any number. The canvas goes to the front of canvas, which has canvas_len bytes: red, green, blue and alpha of each pixel, row
+   after row. The picture as colour numbers goes to the front of pixels, which has pixels_len bytes; its bands go to the front of words, which
+   has words_len words; a unit that packets hold is joined in the front of scratch, which has scratch_len bytes. *start is set to the cue's start
+   in microseconds; numbers has VOBSUB_SHOWN_NUMBERS numbers, and gets those of the cue. start and numbers are not null, and the eight regions
+   do not overlap. Of canvas 4 * width * height bytes are written, of pixels width * height, of words and scratch as many as the bands and the
+   joined unit take. On a refusal (1 to 9, 11 to 26) all are as they were, but that after 15 to 26 a unit that packets hold is in the front of
+   scratch. A unit has 65535 bytes at most, a picture 4096 by 4096 pixels. It takes up to 262 KiB of stack. */
+uint8_t vobsub_decode_cue(const uint8_t *text, size_t text_len,
+                          const uint8_t *file, size_t file_len,
+                          size_t cue,
+                          uint8_t *scratch, size_t scratch_len,
+                          uint8_t *pixels, size_t pixels_len,
+                          uint16_t *words, size_t words_len,
+                          uint8_t *canvas, size_t canvas_len,
+                          int64_t *start,
+                          uint64_t numbers[VOBSUB_SHOWN_NUMBERS]);
+
 /* Writes a picture of that width and height as a unit into the front of out, which has out_len bytes. indices has indices_len bytes, the
    colour numbers 0 to 3 of its pixels, row after row; width and height may be any numbers. *length is set to the unit's length. length is not
    null, and the three regions do not overlap. On a refusal (27 to 31) out and *length are as they were, and after a unit out past its

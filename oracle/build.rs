@@ -18,15 +18,14 @@ fn opened(text: &str) -> String {
     out
 }
 
-// Where the function of that name starts and ends: it starts a line, and so does its last brace.
+// Where the function of that name starts and ends: it starts a line, and so does its last brace; a method's are four blanks further on.
 fn place_of(text: &str, name: &str) -> (usize, usize) {
-    let mut start = None;
-    for head in [format!("\npub fn {name}("), format!("\nfn {name}(")] {
-        start = start.or(text.find(&head));
+    for (head, last) in [(format!("\npub fn {name}("), "\n}\n"), (format!("\nfn {name}("), "\n}\n"), (format!("\n    fn {name}("), "\n    }\n")] {
+        if let Some(start) = text.find(&head) {
+            return (start, start + text[start..].find(last).expect("an end"));
+        }
     }
-    let start = start.unwrap_or_else(|| panic!("no function {name}"));
-    let end = start + text[start..].find("\n}\n").expect("an end");
-    (start, end)
+    panic!("no function {name}")
 }
 
 // The text with one token of a function replaced, where it stands for the n-th time, comments left out of the count.

@@ -1,5 +1,6 @@
 /* Lists the unit at a position of a file: its record, its bands and its picture.  unit [FILE POSITION]   (the position in hexadecimal)
-   Without words it lists a small unit of its own that stands in one packet. */
+   Without words it lists a small unit of its own that stands in one packet, and paints the cue of a small title with that unit. */
+#include <inttypes.h>
 #include <stdio.h>
 #include <stdlib.h>
 #include <string.h>
@@ -11,7 +12,46 @@ static const uint8_t own[] = {
     0x09, 0x03, 0x01, 0x32, 0x04, 0x0F, 0xFF, 0x05, 0x00, 0x00, 0x01, 0x00, 0x00, 0x01, 0x06, 0x00, 0x04, 0x00, 0x06, 0x01, 0xFF,
 };
 
+/* the index text of the title whose file is the packet above */
+static const char index_text[] =
+    "size: 720x576\n"
+    "palette: 000000, ff0000, 00ff00, 0000ff\n"
+    "timestamp: 00:00:01:000, filepos: 0\n";
+
 static uint8_t scratch[65535];
+
+/* The line of a cue of the small title, and its pixels as red, green, blue and alpha. */
+static int paint(size_t cue)
+{
+    uint8_t map[4], canvas[16], refusal;
+    uint16_t bands[1];
+    uint64_t numbers[VOBSUB_SHOWN_NUMBERS];
+    int64_t start;
+    size_t i, x, y;
+
+    refusal = vobsub_decode_cue((const uint8_t *)index_text, sizeof index_text - 1, own, sizeof own, cue, scratch, sizeof scratch, map, sizeof map,
+                                bands, 0, canvas, sizeof canvas, &start, numbers);
+    if (refusal != 0) {
+        printf("%zu refused %u\n", cue, refusal);
+        return 1;
+    }
+    printf("%zu %" PRId64 " ", cue, start);
+    if (numbers[VOBSUB_SHOWN_HAS_DURATION])
+        printf("%" PRIu64, numbers[VOBSUB_SHOWN_DURATION]);
+    else
+        printf("-");
+    for (i = VOBSUB_SHOWN_X1; i <= VOBSUB_SHOWN_HEIGHT; i++)
+        printf(" %" PRIu64, numbers[i]);
+    printf(" %" PRIu64 " %" PRIu64 " %" PRIu64 "\n", numbers[VOBSUB_SHOWN_START_DELAY], numbers[VOBSUB_SHOWN_STOP_DELAY], numbers[VOBSUB_SHOWN_CODES]);
+    for (y = 0; y < numbers[VOBSUB_SHOWN_HEIGHT]; y++) {
+        for (x = 0; x < numbers[VOBSUB_SHOWN_WIDTH]; x++) {
+            for (i = 0; i < 4; i++)
+                printf("%02X", canvas[4 * (y * numbers[VOBSUB_SHOWN_WIDTH] + x) + i]);
+            putchar(x + 1 < numbers[VOBSUB_SHOWN_WIDTH] ? ' ' : '\n');
+        }
+    }
+    return 0;
+}
 
 static uint8_t *whole_file(const char *path, size_t *length)
 {
@@ -85,6 +125,11 @@ int main(int count, char **words)
                 putchar('0' + pixels[y * width + x]);
             putchar('\n');
         }
+    }
+    if (count == 1) {
+        /* the title has one cue, so the next is refused */
+        paint(0);
+        paint(1);
     }
     return 0;
 }

@@ -3,7 +3,7 @@ use crate::oxideav_core;
 
 pub mod adapter {
     use super::*;
-    use crate::side::{Decoded, Side, Spot};
+    use crate::side::{Decoded, Index, Painted, Seen, Side, Spot};
 
     fn word(four: [u8; 4]) -> u16 {
         four.iter().fold(0, |w, &n| w << 4 | n as u16)
@@ -81,9 +81,45 @@ pub mod adapter {
         build_packets(&VobSubIdx::default().with_cues(cues), &[0]).pop_front().expect("a packet").duration
     }
 
+    // a cue past the end of the file has no packet, so that the packets of later cues stand earlier
+    fn seen(index: &Index, file: &[u8], cue: usize, alone: bool) -> Seen {
+        let (cues, cue) = if alone { (vec![index.cues[cue]], 0) } else { (index.cues.clone(), cue) };
+        let there = |c: &(i64, u64)| (c.1 as usize) < file.len();
+        let (position, place) = (cues[cue].1 as usize, cues[..cue].iter().filter(|c| there(c)).count());
+        let (count, left_out) = (cues.len(), cues.iter().filter(|c| !there(c)).count());
+        let mut colours = [[0; 3]; 16];
+        for (colour, from) in colours.iter_mut().zip(index.palette.chunks(3)) {
+            colour.copy_from_slice(from);
+        }
+        let idx = VobSubIdx::default().with_palette_rgb(colours).with_cues(cues);
+        let mut packets = build_packets(&idx, file);
+        if position >= file.len() && packets.len() + left_out == count {
+            return Seen::Skipped;
+        }
+        let packet = packets.remove(place).expect("a packet");
+        let shows = painted(&idx, &packet);
+        let rest = &file[position..];
+        match extract_spu(rest) {
+            None => Seen::None { handed_on: packet.data == rest, refused: shows.is_err() },
+            Some(unit) => Seen::Unit { same: packet.data == unit, joined: extract_spu_from_ps(rest).is_some(), unit, shows },
+        }
+    }
+
+    // what the decoder, made with the palette as the original hands it on, gives of a packet
+    fn painted(idx: &VobSubIdx, packet: &Packet) -> std::result::Result<Box<Painted>, String> {
+        let mut params = CodecParameters::video(CodecId::new(crate::VOBSUB_CODEC_ID));
+        params.extradata = idx.palette_rgb.concat();
+        let mut decoder = make_decoder(&params).map_err(|e| e.to_string())?;
+        decoder.send_packet(packet).map_err(|e| e.to_string())?;
+        let Ok(Frame::Video(frame)) = decoder.receive_frame() else { return Err("no frame".into()) };
+        let plane = frame.planes.into_iter().next().ok_or("no plane")?;
+        let decoded = unit(&packet.data)?;
+        Ok(Box::new(Painted { start: packet.pts, duration: packet.duration, decoded, time: frame.pts, stride: plane.stride, canvas: plane.data }))
+    }
+
     fn positions(text: &str) -> Vec<usize> {
         parse_idx(text).map(|idx| idx.cues.iter().map(|c| c.1 as usize).collect()).unwrap_or_default()
     }
 
-    pub const SIDE: Side = Side { pes_body, spot, bands, field, unit, positions, index, duration, write: build_demo_spu };
+    pub const SIDE: Side = Side { pes_body, spot, bands, field, unit, positions, index, duration, seen, write: build_demo_spu };
 }

@@ -77,6 +77,8 @@ pub struct Class {
     pub refusals: &'static [u8],
     // Whether a quarter of the generated requests must be accepted by both sides.
     pub accepted: bool,
+    // What the number of generated requests is divided by: fewer of those that take long.
+    pub dear: u64,
 }
 
 // What the original does, or the words of its panic.

@@ -10,7 +10,7 @@ const USAGE: &str = "oracle [--seed N] [--seconds N] [--count N] [--class NAME] 
 oracle --ask CLASS HEX [N N N N]
 
   --seed N      the seed of the generated requests (else 1, or with --seconds one from the clock)
-  --count N     generated requests a class (else 400000)
+  --count N     generated requests a class (else 400000), of titles a quarter
   --seconds N   generate requests for N seconds in all, instead of a number of them
   --class NAME  one class only
   --only I      generated request number I of each class only, printed
@@ -142,7 +142,7 @@ fn main() {
             });
             let until = seconds.map(|s| start + Duration::from_secs_f64(s as f64 / classes.len() as f64));
             let mut i = 0;
-            while until.map_or(i < count, |t| i < 20_000 || Instant::now() < t) {
+            while until.map_or(i < count / class.dear, |t| i < 20_000 || Instant::now() < t) {
                 let q = (class.generate)(&world, &mut Random::of(seed, class.name, i));
                 tally.note(class, &i.to_string(), true, &q, (class.compare)(&side, &q));
                 i += 1;

@@ -20,6 +20,9 @@ pub const DURATION: usize = 2;
 pub const CUE_COLOURED: usize = 3;
 pub const COLOURS: usize = 48;
 
+// How many numbers of a painted cue there are: whether it has a duration, the duration, both delays, x1, y1, width, height, codes.
+pub const SHOWN_NUMBERS: usize = 9;
+
 unsafe extern "C" {
     fn vobsub_parse_pes_body(pes: *const u8, pes_len: usize, body: *mut usize) -> u8;
     fn vobsub_extract_spu(file: *const u8, file_len: usize, position: usize, scratch: *mut u8, scratch_len: usize, length: *mut usize, joined: *mut u8) -> u8;
@@ -28,6 +31,23 @@ unsafe extern "C" {
     fn vobsub_parse_and_decode_spu(unit: *const u8, unit_len: usize, pixels: *mut u8, pixels_len: usize, words: *mut u16, words_len: usize, numbers: *mut usize) -> u8;
     fn vobsub_parse_idx(text: *const u8, text_len: usize, starts: *mut i64, starts_len: usize, positions: *mut u64, positions_len: usize, palette: *mut u8, numbers: *mut usize) -> u8;
     fn vobsub_pick_cue(text: *const u8, text_len: usize, cue: usize, start: *mut i64, palette: *mut u8, numbers: *mut u64) -> u8;
+    fn vobsub_decode_cue(
+        text: *const u8,
+        text_len: usize,
+        file: *const u8,
+        file_len: usize,
+        cue: usize,
+        scratch: *mut u8,
+        scratch_len: usize,
+        pixels: *mut u8,
+        pixels_len: usize,
+        words: *mut u16,
+        words_len: usize,
+        canvas: *mut u8,
+        canvas_len: usize,
+        start: *mut i64,
+        numbers: *mut u64,
+    ) -> u8;
     fn vobsub_build_demo_spu(width: usize, height: usize, indices: *const u8, indices_len: usize, out: *mut u8, out_len: usize, length: *mut usize) -> u8;
 }
 
@@ -61,4 +81,35 @@ pub fn parse_idx(text: &[u8], starts: &mut [i64], positions: &mut [u64], palette
 
 pub fn pick_cue(text: &[u8], cue: usize, start: &mut i64, palette: &mut [u8; COLOURS], numbers: &mut [u64; CUE_NUMBERS]) -> u8 {
     unsafe { vobsub_pick_cue(text.as_ptr(), text.len(), cue, start, palette.as_mut_ptr(), numbers.as_mut_ptr()) }
+}
+
+// What is lent to the call from index text and file to a cue's canvas.
+pub struct Lent<'a> {
+    pub scratch: &'a mut [u8],
+    pub pixels: &'a mut [u8],
+    pub words: &'a mut [u16],
+    pub canvas: &'a mut [u8],
+}
+
+pub fn decode_cue(text: &[u8], file: &[u8], cue: usize, lent: Lent, start: &mut i64, numbers: &mut [u64; SHOWN_NUMBERS]) -> u8 {
+    let Lent { scratch, pixels, words, canvas } = lent;
+    unsafe {
+        vobsub_decode_cue(
+            text.as_ptr(),
+            text.len(),
+            file.as_ptr(),
+            file.len(),
+            cue,
+            scratch.as_mut_ptr(),
+            scratch.len(),
+            pixels.as_mut_ptr(),
+            pixels.len(),
+            words.as_mut_ptr(),
+            words.len(),
+            canvas.as_mut_ptr(),
+            canvas.len(),
+            start,
+            numbers.as_mut_ptr(),
+        )
+    }
 }

@@ -29,6 +29,27 @@ pub struct Index {
     pub cues: Vec<(i64, u64)>,
 }
 
+// What the original makes of a cue of an index and a file.
+pub enum Seen {
+    // It has no packet.
+    Skipped,
+    // No unit: its packet has the rest of the file instead, if `handed_on`, and its decoder refuses that, if `refused`.
+    None { handed_on: bool, refused: bool },
+    // Its unit, which is also what its packet has, if `same`.
+    Unit { unit: Vec<u8>, joined: bool, same: bool, shows: Result<Box<Painted>, String> },
+}
+
+// A cue's frame, and the record of its unit.
+pub struct Painted {
+    pub start: Option<i64>,
+    pub duration: Option<i64>,
+    pub decoded: Decoded,
+    // The frame's own time, bytes a line, and bytes.
+    pub time: Option<i64>,
+    pub stride: usize,
+    pub canvas: Vec<u8>,
+}
+
 #[derive(Clone, Copy)]
 pub struct Side {
     pub pes_body: fn(&[u8]) -> Option<usize>,
@@ -40,6 +61,8 @@ pub struct Side {
     pub index: fn(&str) -> Result<Index, String>,
     // The duration of a cue with this start, if another with that start follows it.
     pub duration: fn(i64, Option<i64>) -> Option<i64>,
+    // The cue with that number; `alone` leaves out all others, and with them its duration.
+    pub seen: fn(&Index, &[u8], usize, bool) -> Seen,
     pub write: fn(u16, u16, &[u8]) -> Vec<u8>,
 }
 

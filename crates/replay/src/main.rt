@@ -169,6 +169,45 @@ fn cue(bytes: &[u8], n: usize, e: Expected) -> bool {
     as_expected(e, r, mixed_palette(s, &palette))
 }
 
+// The numbers of a painted cue.
+fn mixed_shown(sum: u64, s: &[u64; 9]) -> u64 {
+    let mut t = sum;
+    let mut i = 0;
+    while i < 9 {
+        t = mixed(t, s[i]);
+        i += 1;
+    }
+    t
+}
+
+fn canvas(
+    text: &[u8],
+    file: &[u8],
+    n: usize,
+    scratch: &mut [u8],
+    map: &mut [u8],
+    words: &mut [u16],
+    bytes: &mut [u8],
+    e: Expected,
+) -> bool {
+    let mut start: i64 = START;
+    let mut numbers: [u64; 9] = [NUMBER as u64; 9];
+    let r = vobsub_c::vobsub_decode_cue(
+        text,
+        file,
+        n,
+        scratch,
+        map,
+        words,
+        bytes,
+        &mut start,
+        &mut numbers,
+    );
+    let s = mixed_shown(mixed_signed(1, start), &numbers);
+    let t = mixed_words(mixed_bytes(mixed_bytes(s, scratch), map), words);
+    as_expected(e, r, mixed_bytes(t, bytes))
+}
+
 fn packets_front(
     bytes: &[u8],
     position: usize,
@@ -273,6 +312,111 @@ fn index_row(bytes: &[u8], room: usize, more: usize, e: Expected) -> bool {
     index_front(bytes, &mut starts, room, &mut positions, more, e)
 }
 
+fn canvas_parts(
+    row: &[u8],
+    length: usize,
+    n: usize,
+    scratch: &mut [u8],
+    map: &mut [u8],
+    words: &mut [u16],
+    bytes: &mut [u8],
+    e: Expected,
+) -> bool {
+    if length <= row.len() {
+        return canvas(
+            &row[..length],
+            &row[length..],
+            n,
+            scratch,
+            map,
+            words,
+            bytes,
+            e,
+        );
+    }
+    false
+}
+
+// The text's length in four bytes, the cue in two, then text and file.
+fn canvas_head(
+    row: &[u8],
+    scratch: &mut [u8],
+    map: &mut [u8],
+    words: &mut [u16],
+    bytes: &mut [u8],
+    e: Expected,
+) -> bool {
+    if row.len() < 6 {
+        return false;
+    }
+    let length = long_of(row[0], row[1], row[2], row[3]) as usize;
+    let n = word_of(row[4], row[5]);
+    canvas_parts(&row[6..], length, n, scratch, map, words, bytes, e)
+}
+
+fn canvas_front(
+    row: &[u8],
+    scratch: &mut [u8],
+    map: &mut [u8],
+    words: &mut [u16],
+    bytes: &mut [u8],
+    room: usize,
+    e: Expected,
+) -> bool {
+    if room <= bytes.len() {
+        return canvas_head(row, scratch, map, words, &mut bytes[..room], e);
+    }
+    false
+}
+
+fn canvas_words(
+    row: &[u8],
+    scratch: &mut [u8],
+    map: &mut [u8],
+    words: &mut [u16],
+    more: usize,
+    room: usize,
+    e: Expected,
+) -> bool {
+    let mut bytes = [BYTE; 4096];
+    if more <= words.len() {
+        return canvas_front(row, scratch, map, &mut words[..more], &mut bytes, room, e);
+    }
+    false
+}
+
+fn canvas_map(
+    row: &[u8],
+    scratch: &mut [u8],
+    map: &mut [u8],
+    most: usize,
+    more: usize,
+    room: usize,
+    e: Expected,
+) -> bool {
+    let mut words = [WORD; 256];
+    if most <= map.len() {
+        return canvas_words(row, scratch, &mut map[..most], &mut words, more, room, e);
+    }
+    false
+}
+
+fn canvas_scratch(
+    row: &[u8],
+    scratch: &mut [u8],
+    a: usize,
+    b: usize,
+    c: usize,
+    d: usize,
+    e: Expected,
+) -> bool {
+    let mut map = [BYTE; 1024];
+    if a <= scratch.len() {
+        return canvas_map(row, &mut scratch[..a], &mut map, b, c, d, e);
+    }
+    false
+}
+
 fn word_of(a: u8, b: u8) -> usize {
     a as usize * 256 + b as usize
 }
@@ -308,6 +452,9 @@ fn row(class: u8, bytes: &[u8], a: usize, b: usize, c: usize, d: usize, e: Expec
     }
     if class == 8 {
         return cue(bytes, a, e);
+    }
+    if class == 9 {
+        return canvas_scratch(bytes, &mut map, a, b, c, d, e);
     }
     false
 }
@@ -403,4 +550,5 @@ fn main() {
     class(b"written");
     class(b"idx");
     class(b"cue");
+    class(b"canvas");
 }

@@ -34,6 +34,12 @@ use Rattle.spu.specs.Unit.{unitIn}
 use Rattle.spu.specs.Answers.{spuAnswer, unitMap, unitBands}
 use Rattle.spu.specs.declared.SpuAnswer.{SpuAnswer}
 use Rattle.spu.specs.declared.SpuAnswer.the-variants as spu-answer
+use Rattle.vobsub.specs.Call.{Lent, wanted, foundFor, readingIn}
+use Rattle.vobsub.specs.Answers.{canvasAnswer, scratchOf, pixelsOf, bandsOf, paintedOf}
+use Rattle.vobsub.specs.Claim.{Exactly}
+use Rattle.vobsub.specs.declared.Shown.{Shown}
+use Rattle.vobsub.specs.declared.CanvasAnswer.{CanvasAnswer}
+use Rattle.vobsub.specs.declared.CanvasAnswer.the-variants as canvas-answer
 
 -- the refusal of an answer, 0 where there is none
 abbrev pub bandRefusal : BandAnswer → ℕ
@@ -171,3 +177,32 @@ pub record CueGiven (text : List ℕ) (cue : ℕ) (start : ℤ) (palette numbers
   pub starts-at : start′ ≡ cueStart (cueAnswer (pickOf (textOf text) cue)) start
   pub told : numbers′ ≡ cueRecord (cueAnswer (pickOf (textOf text) cue)) numbers
   pub colours : palette′ ≡ cuePalette (cueAnswer (pickOf (textOf text) cue)) palette
+
+abbrev pub canvasRefusal : CanvasAnswer → ℕ
+canvasRefusal (canvas-answer.Paints s) = 0
+canvasRefusal (canvas-answer.Refused k) = k
+
+-- whether there is a duration, the duration, the delays, the place, the size and the number of codes in the order of include/vobsub.h
+abbrev pub shownNumbers : Shown → List ℕ
+shownNumbers s =
+    cond (s .«has_duration») 1 0 ∷ s .duration ∷ s .«start_delay» ∷ s .«stop_delay» ∷ s .x1 ∷ s .y1 ∷ s .width ∷ s .height ∷ s .codes ∷ []
+
+-- those and the start of an answer, or what was there
+abbrev pub canvasRecord : CanvasAnswer → List ℕ → List ℕ
+canvasRecord (canvas-answer.Paints s) before = shownNumbers s
+canvasRecord (canvas-answer.Refused k) before = before
+
+abbrev pub canvasStart : CanvasAnswer → ℤ → ℤ
+canvasStart (canvas-answer.Paints s) before = s .start
+canvasStart (canvas-answer.Refused k) before = before
+
+-- the answer with its numbers, what the four buffers hold, and the call's claim on whole files
+pub record CueDecoded (text file : List ℕ) (cue : ℕ) (b : Lent) (start : ℤ) (numbers : List ℕ) (r : ℕ) (b′ : Lent) (start′ : ℤ) (numbers′ : List ℕ) : Type 0 where
+  pub refusal : r ≡ canvasRefusal (canvasAnswer (readingIn text file (wanted cue) b))
+  pub starts-at : start′ ≡ canvasStart (canvasAnswer (readingIn text file (wanted cue) b)) start
+  pub told : numbers′ ≡ canvasRecord (canvasAnswer (readingIn text file (wanted cue) b)) numbers
+  pub in-scratch : b′ .scratch ≡ sets (b .scratch) 0 (scratchOf (foundFor text file (wanted cue) (length (b .scratch))))
+  pub in-pixels : b′ .pixels ≡ sets (b .pixels) 0 (pixelsOf (readingIn text file (wanted cue) b))
+  pub in-words : b′ .words ≡ sets (b .words) 0 (bandsOf (readingIn text file (wanted cue) b))
+  pub in-canvas : b′ .canvas ≡ sets (b .canvas) 0 (paintedOf (readingIn text file (wanted cue) b))
+  pub exactly : Exactly text file (wanted cue) b (canvasAnswer (readingIn text file (wanted cue) b)) b′

@@ -9,9 +9,12 @@ use outcome::NO_UNIT;
 use ps::UnitAnswer;
 use rle::FieldAnswer;
 use spu::SpuAnswer;
+use vobsub::CanvasAnswer;
+use vobsub::Shown;
 ghost use mathlib.Core.Bool.{cond};
 ghost use mathlib.Core.Path.{_≡_};
-ghost use Rattle.vobsub_c.specs.Answers.{BandsGiven, UnitExtracted, FieldDecoded, BodyFound, spuNumbers, UnitDecoded, UnitWritten, idxNumbers, IndexGiven, cueNumbers, CueGiven};
+ghost use Rattle.vobsub.specs.Call.{lent};
+ghost use Rattle.vobsub_c.specs.Answers.{BandsGiven, UnitExtracted, FieldDecoded, BodyFound, spuNumbers, UnitDecoded, UnitWritten, idxNumbers, IndexGiven, cueNumbers, CueGiven, shownNumbers, CueDecoded};
 
 // The bands in a payload, stored from place `at` of the lent words on, and how many words they take.
 // Ruled out: a count set on a refusal.
@@ -276,4 +279,52 @@ pub extern "C" fn vobsub_pick_cue(
         return 0;
     }
     a.refused
+}
+
+// Whether another cue follows and the time up to it, the delays, the place, the size and the number of codes, in the order of
+// include/vobsub.h.
+// Ruled out: the place's column and line in each other's place.
+fn shown_numbers_of(s: Shown) -> [u64; 9]
+    ensures { λ r. ⌜ r ≡ shownNumbers s ⌝ }
+{
+    let lasts = flag(s.has_duration);
+    [
+        lasts as u64,
+        s.duration,
+        s.start_delay as u64,
+        s.stop_delay as u64,
+        s.x1 as u64,
+        s.y1 as u64,
+        s.width as u64,
+        s.height as u64,
+        s.codes as u64,
+    ]
+}
+
+// One cue of a title, from index text and file: its canvas in the front of `canvas`, its index map in the front of `pixels`, its bands in the
+// front of `words`, its unit in the front of `scratch` where packets hold it, its start, and its other numbers.
+// Ruled out: a start or numbers set on a refusal; a canvas whose start is left as found.
+#[no_mangle]
+pub extern "C" fn vobsub_decode_cue(
+    text: &[u8],
+    file: &[u8],
+    cue: usize,
+    scratch: &mut [u8],
+    pixels: &mut [u8],
+    words: &mut [u16],
+    canvas: &mut [u8],
+    start: &mut i64,
+    numbers: &mut [u64; 9],
+) -> u8
+    ensures { λ r. ⌜ CueDecoded (now (text .entry)) (now (file .entry)) cue (lent (now (scratch .entry)) (now (pixels .entry)) (now (words .entry)) (now (canvas .entry))) (now (start .entry)) (now (numbers .entry)) r (lent (now (scratch .exit)) (now (pixels .exit)) (now (words .exit)) (now (canvas .exit))) (now (start .exit)) (now (numbers .exit)) ⌝ }
+{
+    match vobsub::decode_cue(text, file, cue, scratch, pixels, words, canvas) {
+        CanvasAnswer::Paints(s) => {
+            let from = s.start;
+            *start = from;
+            *numbers = shown_numbers_of(s);
+            0
+        }
+        CanvasAnswer::Refused(number) => number,
+    }
 }

@@ -2,11 +2,11 @@
 //
 // The list: 128 bytes of text that say how it was made; then for each class in the order of `classes::all` a word with the number of its rows,
 // and its rows. A row is 16 bytes and the request's bytes: which function is asked (1 pes, 2 packets, 3 bands, 4 fields, 5 units, 6 written,
-// 7 idx, 8 cue), the refusal, a word with the number of bytes, four words with the request's numbers, and four bytes with the sum over the answer.
+// 7 idx, 8 cue, 9 canvas), the refusal, a word with the number of bytes, four words with the request's numbers, and four bytes with the sum over the answer.
 //
 // Only requests on which both sides agree (or that a rule covers) go into the list, so many for each answer.
 use oracle::class::{BYTE, Class, NUMBER, Request, START, Sum, WORD, World};
-use oracle::classes;
+use oracle::classes::{self, canvas};
 use oracle::port;
 use oracle::random::Random;
 use oracle::side::Side;
@@ -15,9 +15,15 @@ use std::collections::BTreeMap;
 const SEED: u64 = 7;
 const EACH: usize = 90;
 const LONGEST: usize = 240;
+// of titles fewer and longer ones
+const EACH_TITLE: usize = 24;
+const LONGEST_TITLE: usize = 640;
 
-// The numbers of a request as the list has them: for units, how many bytes and words are lent.
+// The numbers of a request as the list has them: for units and titles, how many bytes and words are lent.
 fn numbers(class: &Class, side: &Side, q: &Request) -> [usize; 4] {
+    if kind(class) == 9 {
+        return canvas::rooms(side, q);
+    }
     if kind(class) == 6 {
         return [q.n[0], q.n[1], q.n[2].min(200), 0];
     }
@@ -48,6 +54,7 @@ fn kind(class: &Class) -> u8 {
         "written" => 6,
         "idx" => 7,
         "cue" => 8,
+        "canvas" => 9,
         _ => 5,
     }
 }
@@ -112,6 +119,20 @@ fn answer(kind: u8, bytes: &[u8], n: [usize; 4]) -> (u8, u64) {
             sum.all(&palette);
             refusal
         }
+        9 => {
+            let (mut scratch, mut map, mut words, mut painted) = (vec![BYTE; n[0]], vec![BYTE; n[1]], vec![WORD; n[2]], vec![BYTE; n[3]]);
+            let (mut start, mut numbers) = (START, [NUMBER as u64; port::SHOWN_NUMBERS]);
+            let (text, file, cue) = canvas::parts(bytes);
+            let lent = port::Lent { scratch: &mut scratch, pixels: &mut map, words: &mut words, canvas: &mut painted };
+            let refusal = port::decode_cue(text, file, cue, lent, &mut start, &mut numbers);
+            sum.signed(start);
+            sum.all(&numbers);
+            sum.all(&scratch);
+            sum.all(&map);
+            sum.all(&words);
+            sum.all(&painted);
+            refusal
+        }
         _ => {
             let (mut map, mut words, mut numbers) = (vec![BYTE; n[0]], vec![WORD; n[1]], [NUMBER; port::NUMBERS]);
             let refusal = port::unit(bytes, &mut map, &mut words, &mut numbers);
@@ -139,7 +160,11 @@ fn rows(class: &Class, world: &World, side: &Side) -> (usize, Vec<u8>) {
             5 => n[0].max(n[1]),
             _ => 0,
         };
-        if q.bytes.len() > LONGEST || room > 1000 && kind(class) != 5 || room > 2048 || n[1] > 1000 && kind(class) == 5 || n.iter().any(|&v| v > 65535) {
+        let title = kind(class) == 9;
+        if title && (n[0] > 1024 || n[1] > 1024 || n[2] > 256 || n[3] > 4096) {
+            continue;
+        }
+        if q.bytes.len() > if title { LONGEST_TITLE } else { LONGEST } || room > 1000 && kind(class) != 5 || room > 2048 || n[1] > 1000 && kind(class) == 5 || n.iter().any(|&v| v > 65535) {
             continue;
         }
         let o = (class.compare)(side, &q);
@@ -149,7 +174,8 @@ fn rows(class: &Class, world: &World, side: &Side) -> (usize, Vec<u8>) {
         if refusal != o.refusal {
             continue;
         }
-        let quota = if refusal == 0 { 4 * EACH } else { EACH };
+        let each = if title { EACH_TITLE } else { EACH };
+        let quota = if refusal == 0 { 4 * each } else { each };
         let seen = met.entry(refusal).or_default();
         if *seen >= quota {
             continue;

@@ -1,6 +1,7 @@
 // Times the original and the port on the same inputs, in turn, in one run. A ratio above 1 says that the port is the faster one.
 use oracle::classes::unit::{area, put, set_word};
 use oracle::original;
+use oracle::oxideav_core;
 use oracle::port;
 use oracle::titles::{Title, titles};
 use std::hint::black_box;
@@ -32,6 +33,7 @@ struct Lent {
     palette: [u8; port::COLOURS],
     scratch: Vec<u8>,
     map: Vec<u8>,
+    canvas: Vec<u8>,
     words: Vec<u16>,
     numbers: [usize; port::NUMBERS],
 }
@@ -142,6 +144,91 @@ fn index(title: &Title, lent: &mut Lent) {
     });
 }
 
+// The decoder as the original makes it for a title.
+fn decoder(idx: &original::VobSubIdx) -> Box<dyn oxideav_core::Decoder> {
+    let mut params = oxideav_core::CodecParameters::video(oxideav_core::CodecId::new(oracle::VOBSUB_CODEC_ID));
+    params.extradata = idx.palette_rgb.concat();
+    original::make_decoder(&params).expect("a decoder")
+}
+
+// A cue's packet as build_packets makes it, and its frame.
+fn painted(idx: &original::VobSubIdx, file: &[u8]) -> usize {
+    let packet = original::build_packets(idx, file).pop_front().expect("a packet");
+    let mut decoder = decoder(idx);
+    decoder.send_packet(&packet).expect("a frame");
+    let Ok(oxideav_core::Frame::Video(frame)) = decoder.receive_frame() else { panic!("no frame") };
+    frame.planes[0].data.len()
+}
+
+// One call for each cue, to its canvas, with the whole index text, and with a text of that cue alone: what comes after the index text, since
+// painting has no entry of its own. The original reads the text for each cue too, and makes the packet of that cue (with the start of the
+// next, for its duration, but no packet of it); in the second part it gets the index and the palette as they are. Its canvas is made anew,
+// cleared; the port's buffers are lent, and those parts of map and canvas that a cue needs are cleared before each call.
+fn cues(title: &Title, lent: &mut Lent) {
+    let (text, file, count) = (title.text.as_str(), &title.file[..], title.positions.len());
+    let whole = original::parse_idx(text).expect("an index");
+    let one = |cue: usize| whole.clone().with_cues(vec![whole.cues[cue]]);
+    let alone: Vec<original::VobSubIdx> = (0..count).map(one).collect();
+    let needs: Vec<usize> = alone.iter().map(|idx| painted(idx, file)).collect();
+    let palette: String = text.lines().filter(|l| l.starts_with("size:") || l.starts_with("palette:")).map(|l| format!("{l}\n")).collect();
+    let stamps = text.lines().filter(|l| l.starts_with("timestamp:"));
+    let texts: Vec<String> = stamps.map(|l| format!("{palette}{l}\n")).collect();
+    assert_eq!(texts.len(), count);
+    let mut ask = |text: &[u8], cue: usize, need: usize| {
+        lent.map[..need / 4].fill(0);
+        lent.canvas[..need].fill(0);
+        let (mut start, mut numbers) = (0, [0; port::SHOWN_NUMBERS]);
+        let buffers = port::Lent { scratch: &mut lent.scratch, pixels: &mut lent.map, words: &mut lent.words, canvas: &mut lent.canvas };
+        let refusal = port::decode_cue(black_box(text), black_box(file), cue, buffers, &mut start, &mut numbers);
+        assert_eq!(refusal, 0);
+        black_box((start, numbers));
+    };
+    beside(
+        &format!("{}, one call for each of {count} cues", title.name),
+        &mut || {
+            for cue in 0..count {
+                let idx = original::parse_idx(black_box(text)).expect("an index");
+                // a cue past the file's end has no packet, so the next one adds its start alone
+                let cues = idx.cues[cue..].iter().take(2).enumerate().map(|(i, c)| (c.0, if i == 0 { c.1 } else { u64::MAX })).collect();
+                black_box(painted(&idx.with_cues(cues), black_box(file)));
+            }
+        },
+        &mut || {
+            for (cue, &need) in needs.iter().enumerate() {
+                ask(text.as_bytes(), cue, need);
+            }
+        },
+    );
+    beside(
+        &format!("{}, extract, decode and paint for each of {count} cues", title.name),
+        &mut || {
+            for idx in &alone {
+                black_box(painted(black_box(idx), black_box(file)));
+            }
+        },
+        &mut || {
+            for (text, &need) in texts.iter().zip(&needs) {
+                ask(text.as_bytes(), 0, need);
+            }
+        },
+    );
+    // what of the second part is the text's
+    let (mut start, mut numbers) = (0, [0; port::CUE_NUMBERS]);
+    beside(
+        &format!("{}, the index texts of one cue each for {count} cues", title.name),
+        &mut || {
+            for text in &texts {
+                black_box(original::parse_idx(black_box(text)).is_ok());
+            }
+        },
+        &mut || {
+            for text in &texts {
+                assert_eq!(port::pick_cue(black_box(text.as_bytes()), 0, &mut start, &mut lent.palette, &mut numbers), 0);
+            }
+        },
+    );
+}
+
 // The layers alone: the payload of the long band list, and one field of the codes of one nibble.
 fn layers(lent: &mut Lent) {
     let unit = many_bands();
@@ -228,12 +315,13 @@ fn one_nibble() -> Vec<u8> {
 }
 
 fn main() {
-    let mut lent = Lent { starts: vec![0; 2000], positions: vec![0; 2000], palette: [0; port::COLOURS], scratch: vec![0; 65536], map: vec![0; 1 << 24], words: vec![0; 1 << 16], numbers: [0; port::NUMBERS] };
+    let mut lent = Lent { starts: vec![0; 2000], positions: vec![0; 2000], palette: [0; port::COLOURS], scratch: vec![0; 65536], map: vec![0; 1 << 24], canvas: vec![0; 1 << 22], words: vec![0; 1 << 16], numbers: [0; port::NUMBERS] };
     for title in titles().iter().filter(|t| t.name.starts_with("bench")) {
         let units: Vec<Vec<u8>> = title.positions.iter().map(|&p| original::extract_spu(&title.file[p..]).expect("a unit")).collect();
         index(title, &mut lent);
         extract(&format!("{}, {} units from packets", title.name, units.len()), title, &mut lent);
         decode(&format!("{}, {} units to record, map and words", title.name, units.len()), &units, &mut lent);
+        cues(title, &mut lent);
     }
     decode("blocks that overlap, 8,000 bytes", &[overlapping(8000)], &mut lent);
     decode("blocks that overlap, 65,532 bytes", &[overlapping(65535)], &mut lent);

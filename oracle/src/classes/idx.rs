@@ -4,8 +4,8 @@ use crate::port;
 use crate::random::Random;
 use crate::side::{Index, Side};
 
-pub const CLASS: Class = Class { name: "idx", fixed, generate, compare, refusals: &[1, 2, 3, 4, 5, 6, 7, 8, 9, 10], accepted: true };
-pub const CUE: Class = Class { name: "cue", fixed: fixed_cues, generate: generate_cue, compare: compare_cue, refusals: &[1, 2, 3, 4, 5, 6, 7, 8, 9, 11], accepted: true };
+pub const CLASS: Class = Class { name: "idx", fixed, generate, compare, refusals: &[1, 2, 3, 4, 5, 6, 7, 8, 9, 10], accepted: true, dear: 1 };
+pub const CUE: Class = Class { name: "cue", fixed: fixed_cues, generate: generate_cue, compare: compare_cue, refusals: &[1, 2, 3, 4, 5, 6, 7, 8, 9, 11], accepted: true, dear: 1 };
 
 fn each_word(alphabet: &[&str], longest: u32, f: &mut dyn FnMut(&str)) {
     for length in 0..=longest {
@@ -52,7 +52,7 @@ fn fixed(world: &World, each: &mut dyn FnMut(Request)) {
 }
 
 // Starts at the ends of their range, and near 0.
-const TIMES: [&str; 10] = ["0", "0:0:0:1", "0:0:0:-1", "0:0:1", "0:0:-1", "0:0:9223372036854:775", "0:0:9223372036854:774", "0:0:-9223372036854:-775", "0:0:-9223372036854:-774", "1281023894"];
+pub const TIMES: [&str; 10] = ["0", "0:0:0:1", "0:0:0:-1", "0:0:1", "0:0:-1", "0:0:9223372036854:775", "0:0:9223372036854:774", "0:0:-9223372036854:-775", "0:0:-9223372036854:-774", "1281023894"];
 
 fn fixed_cues(world: &World, each: &mut dyn FnMut(Request)) {
     for text in &world.texts {
@@ -77,7 +77,7 @@ fn fixed_cues(world: &World, each: &mut dyn FnMut(Request)) {
     }
 }
 
-fn number(r: &mut Random) -> String {
+pub fn number(r: &mut Random) -> String {
     match r.below(14) {
         0 => String::new(),
         12 => format!("{}{}{}", blank(r), r.below(100), blank(r)),
@@ -96,7 +96,7 @@ fn blank(r: &mut Random) -> &'static str {
     *r.pick(&["", "", "", " ", "  ", "\t", "\r", "\x0b", "\x0c"])
 }
 
-fn line(r: &mut Random, out: &mut String) {
+pub fn line(r: &mut Random, out: &mut String) {
     out.push_str(blank(r));
     match r.below(16) {
         0 => out.push_str("# a remark: size: 1x1"),
@@ -215,13 +215,13 @@ fn number_of(message: &str) -> u8 {
     PARTS.iter().find(|p| message.contains(p.0)).map_or(255, |p| p.1)
 }
 
-enum Expected {
+pub enum Expected {
     Refused(u8, Option<&'static str>),
     Given(Index),
 }
 
 // What the port must say of a text with room for so many cues, and the words of the original where it panicked.
-fn expected(side: &Side, bytes: &[u8], room: usize) -> (Expected, Option<String>) {
+pub fn expected(side: &Side, bytes: &[u8], room: usize) -> (Expected, Option<String>) {
     const SHORT: Expected = Expected::Refused(10, Some("10: cue buffers are lent, and too short"));
     if bytes.iter().any(|&b| b >= 0x80) {
         return (Expected::Refused(1, Some("1: a byte of 80 or above")), None);

@@ -1,5 +1,6 @@
 // The classes. A further one is a module here with a `Class`, and a line in `all`.
 pub mod bands;
+pub mod canvas;
 pub mod control;
 pub mod field;
 pub mod idx;
@@ -11,5 +12,5 @@ pub mod written;
 use crate::class::Class;
 
 pub fn all() -> Vec<Class> {
-    vec![pes::CLASS, packets::CLASS, bands::CLASS, control::CLASS, field::CLASS, unit::CLASS, written::CLASS, idx::CLASS, idx::CUE]
+    vec![pes::CLASS, packets::CLASS, bands::CLASS, control::CLASS, field::CLASS, unit::CLASS, written::CLASS, idx::CLASS, idx::CUE, canvas::CLASS]
 }

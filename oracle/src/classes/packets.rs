@@ -5,7 +5,7 @@ use crate::port;
 use crate::random::Random;
 use crate::side::{Side, Spot};
 
-pub const CLASS: Class = Class { name: "packets", fixed, generate, compare, refusals: &[12, 13, 14], accepted: true };
+pub const CLASS: Class = Class { name: "packets", fixed, generate, compare, refusals: &[12, 13, 14], accepted: true, dear: 1 };
 
 fn fixed(world: &World, each: &mut dyn FnMut(Request)) {
     for (file, unit) in world.files.iter().zip(&world.units) {
@@ -76,6 +76,34 @@ fn other(r: &mut Random, out: &mut Vec<u8>) {
     out.extend(r.bytes(length));
 }
 
+// The unit in packets, with others between them that keep nothing.
+pub fn in_packets(r: &mut Random, unit: &[u8], bytes: &mut Vec<u8>) {
+    let mut done = 0;
+    while done < unit.len() {
+        match r.below(8) {
+            0 | 1 => pack(r, bytes),
+            2 => other(r, bytes),
+            3 => {
+                let id = *r.pick(&[0x1F, 0x40, 0x80, 0xA0, 0x00]);
+                let some = r.below(9);
+                let kept = r.bytes(some);
+                private(r, &kept, id, bytes);
+            }
+            _ => {
+                let left = unit.len() - done;
+                let part = if r.once_in(3) { left } else if r.once_in(4) { r.below(2) } else { r.within(1, left) }.min(60000);
+                let id = 0x20 + r.below(32) as u8;
+                let mut kept = unit[done..done + part].to_vec();
+                if part == left && r.once_in(3) {
+                    kept.extend([1, 2, 3]);
+                }
+                private(r, &kept, id, bytes);
+                done += part;
+            }
+        }
+    }
+}
+
 fn generate(world: &World, r: &mut Random) -> Request {
     let lead = if r.once_in(2) { 0 } else { r.below(9) };
     let mut bytes = r.bytes(lead);
@@ -90,30 +118,7 @@ fn generate(world: &World, r: &mut Random) -> Request {
     if r.once_in(8) {
         bytes.extend(&unit);
     } else {
-        let mut done = 0;
-        while done < unit.len() {
-            match r.below(8) {
-                0 | 1 => pack(r, &mut bytes),
-                2 => other(r, &mut bytes),
-                3 => {
-                    let id = *r.pick(&[0x1F, 0x40, 0x80, 0xA0, 0x00]);
-                    let some = r.below(9);
-                    let kept = r.bytes(some);
-                    private(r, &kept, id, &mut bytes);
-                }
-                _ => {
-                    let left = unit.len() - done;
-                    let part = if r.once_in(3) { left } else if r.once_in(4) { r.below(2) } else { r.within(1, left) }.min(60000);
-                    let id = 0x20 + r.below(32) as u8;
-                    let mut kept = unit[done..done + part].to_vec();
-                    if part == left && r.once_in(3) {
-                        kept.extend([1, 2, 3]);
-                    }
-                    private(r, &kept, id, &mut bytes);
-                    done += part;
-                }
-            }
-        }
+        in_packets(r, &unit, &mut bytes);
     }
     let some = r.below(8);
     bytes.extend(r.bytes(some));

@@ -7,7 +7,7 @@ use crate::random::Random;
 use crate::side::{Decoded, Side, number_of};
 use std::cell::RefCell;
 
-pub const CLASS: Class = Class { name: "units", fixed, generate, compare, refusals: &[15, 16, 17, 18, 19, 20, 21, 22, 23, 25, 26], accepted: true };
+pub const CLASS: Class = Class { name: "units", fixed, generate, compare, refusals: &[15, 16, 17, 18, 19, 20, 21, 22, 23, 25, 26], accepted: true, dear: 1 };
 
 fn fixed(world: &World, each: &mut dyn FnMut(Request)) {
     for unit in &world.units {
@@ -50,7 +50,7 @@ pub fn set_word(bytes: &mut [u8], at: usize, word: usize) {
     }
 }
 
-fn made(r: &mut Random) -> Vec<u8> {
+pub fn made(r: &mut Random) -> Vec<u8> {
     let width = if r.once_in(30) { r.within(1, 720) } else { r.within(1, 40) };
     let height = if r.once_in(30) { r.within(1, 60) } else { r.within(1, 12) };
     let (x1, y1) = (r.below(4096 - width), r.below(4096 - height));
@@ -254,7 +254,7 @@ impl Lent {
     }
 }
 
-fn by_mode(mode: usize, need: usize) -> usize {
+pub fn by_mode(mode: usize, need: usize) -> usize {
     match mode {
         0 => need,
         1 => need + 7,

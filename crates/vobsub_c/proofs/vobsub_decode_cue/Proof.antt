@@ -1,0 +1,91 @@
+-- `vobsub_c::vobsub_decode_cue` meets its contract: the answer of the call, taken apart. Assumes nothing.
+use Prim.Native.Nat.{ℕ}
+use mathlib.Core.Path.{_≡_, refl, sym, ap, subst, _∙_}
+use mathlib.Core.List.{List}
+use lib.IntN.{ℤ}
+use mir.Facts.{toZ-ofZ}
+use mir.Syntax.{w64}
+use borrow.Author.Needs.{needs}
+use Rattle.vobsub.specs.Call.{Lent, wanted}
+use Rattle.vobsub.specs.Answers.{CuePainted}
+use Rattle.vobsub.specs.Claim.{Exactly}
+use Rattle.vobsub.specs.declared.CanvasAnswer.{CanvasAnswer}
+use Rattle.vobsub_c.specs.Answers.{canvasRefusal, canvasStart, canvasRecord, CueDecoded}
+use Rattle.vobsub_c.proofs.vobsub_decode_cue.Statement.{statement}
+use Rattle.vobsub_c.proofs.vobsub_decode_cue.Tie as tie
+
+-- what is left where the call's answer is known, and start and numbers are its own
+given : (t f : List ℕ) (n : ℕ) (b b′ : Lent) (z z′ : ℤ) (ns ns′ : List ℕ) (a d : CanvasAnswer) → a ≡ d → CuePainted t f (wanted n) b a b′ × Exactly t f (wanted n) b a b′ → z′ ≡ canvasStart d z → ns′ ≡ canvasRecord d ns → CueDecoded t f n b z ns (canvasRefusal d) b′ z′ ns′
+given t f n b b′ z z′ ns ns′ a d e q k h =
+    let y = sym e ∙ q .0 .answer in
+    record {
+      refusal = ap canvasRefusal y;
+      starts-at = k ∙ ap (λ (o : CanvasAnswer). canvasStart o z) y;
+      told = h ∙ ap (λ (o : CanvasAnswer). canvasRecord o ns) y;
+      in-scratch = q .0 .in-scratch;
+      in-pixels = q .0 .in-pixels;
+      in-words = q .0 .in-words;
+      in-canvas = q .0 .in-canvas;
+      exactly = subst (λ (o : CanvasAnswer). Exactly t f (wanted n) b o b′) (q .0 .answer) (q .1);
+    }
+
+decode-cue-requires : tie.Need-decode-cue-requires
+decode-cue-requires c κs = search needs
+
+enum-known-s : tie.Need-enum-known-s
+enum-known-s c = search needs
+
+shown-numbers-of-requires : tie.Need-shown-numbers-of-requires
+shown-numbers-of-requires c κs = search needs
+
+enum-known-number : tie.Need-enum-known-number
+enum-known-number c = search needs
+
+same-length : tie.Need-same-length
+same-length c = search needs
+
+same-length-2 : tie.Need-same-length-2
+same-length-2 c = search needs
+
+same-length-3 : tie.Need-same-length-3
+same-length-3 c = search needs
+
+same-length-4 : tie.Need-same-length-4
+same-length-4 c = search needs
+
+returns : tie.Need-returns
+returns c = given _ _ _ _ _ _ _ _ _ _ _ (c .before .before .before .s .given .1) (c .before .before .before .before .before .before .before .before .before .before .before .before .before .decode-cue .ensures) (toZ-ofZ {w = w64} (record { sfits = c .before .struct-told .given .0 .1 })) (c .shown-numbers-of .ensures)
+
+same-length-5 : tie.Need-same-length-5
+same-length-5 c = search needs
+
+same-length-6 : tie.Need-same-length-6
+same-length-6 c = search needs
+
+same-length-7 : tie.Need-same-length-7
+same-length-7 c = search needs
+
+same-length-8 : tie.Need-same-length-8
+same-length-8 c = search needs
+
+returns-2 : tie.Need-returns-2
+returns-2 c = given _ _ _ _ _ _ _ _ _ _ _ (c .before .number .given .1) (c .before .before .before .before .before .before .before .before .before .before .before .decode-cue .ensures) refl refl
+
+pub vobsub-decode-cue-spec : {M : Type 1} → statement M
+vobsub-decode-cue-spec =
+    tie.close
+    (tie.spec
+    decode-cue-requires
+    enum-known-s
+    shown-numbers-of-requires
+    enum-known-number
+    same-length
+    same-length-2
+    same-length-3
+    same-length-4
+    returns
+    same-length-5
+    same-length-6
+    same-length-7
+    same-length-8
+    returns-2)

@@ -1,0 +1,574 @@
+// A cue's canvas from index text and file, in one call. The bytes: four with the text's length, two with the cue's number, the text, the file.
+// n: how scratch, map, words and canvas are lent (0 exactly as long as needed, 1 longer, 2 one short, 3 none).
+use crate::class::*;
+use crate::classes::idx::{Expected, TIMES, expected, line, number};
+use crate::classes::packets::in_packets;
+use crate::classes::unit::{area, by_mode, change, made, put, set_word};
+use crate::classes::{bands, field};
+use crate::port;
+use crate::random::Random;
+use crate::side::{Painted, Seen, Side, number_of};
+use crate::titles::titles;
+use std::cell::RefCell;
+
+pub const CLASS: Class = Class {
+    name: "canvas",
+    fixed,
+    generate,
+    compare,
+    refusals: &[1, 2, 3, 4, 5, 6, 7, 8, 9, 11, 12, 13, 14, 15, 16, 17, 18, 19, 20, 21, 22, 23, 24, 25, 26],
+    accepted: true,
+    dear: 4,
+};
+
+const HEAD: usize = 6;
+
+pub fn request(text: &[u8], file: &[u8], cue: usize, n: [usize; 4]) -> Request {
+    let mut bytes = (text.len() as u32).to_be_bytes().to_vec();
+    bytes.extend((cue as u16).to_be_bytes());
+    bytes.extend(text);
+    bytes.extend(file);
+    Request { bytes, n }
+}
+
+// Text, file and cue of a request.
+pub fn parts(bytes: &[u8]) -> (&[u8], &[u8], usize) {
+    let mut head = [0; HEAD];
+    let there = bytes.len().min(HEAD);
+    head[..there].copy_from_slice(&bytes[..there]);
+    let [a, b, c, d, e, f] = head;
+    let rest = &bytes[there..];
+    let length = (u32::from_be_bytes([a, b, c, d]) as usize).min(rest.len());
+    (&rest[..length], &rest[length..], u16::from_be_bytes([e, f]) as usize)
+}
+
+// Every cue of the small titles, lent exactly, more, and each buffer one short; every cue of a title of few, and of one of many each tenth.
+fn fixed(_: &World, each: &mut dyn FnMut(Request)) {
+    for title in titles() {
+        let (text, cues) = (title.text.as_bytes(), title.positions.len());
+        let small = title.file.len() < 1 << 16;
+        for cue in (0..=cues).step_by(if cues > 100 { 10 } else { 1 }) {
+            each(request(text, &title.file, cue, [1; 4]));
+            for short in 0..if small { 4 } else { 0 } {
+                let mut n = [0; 4];
+                each(request(text, &title.file, cue, n));
+                n[short] = 2;
+                each(request(text, &title.file, cue, n));
+            }
+        }
+    }
+    // the card, with every colour's selector and alpha
+    let card = [0u8, 0x21, 0, 9, 0, 1, 0x60, 0, 0x30, 0, 0, 0, 9, 3, 1, 0x32, 4, 0x0F, 0xFF, 5, 0, 0, 1, 0, 0, 1, 6, 0, 4, 0, 6, 1, 0xFF];
+    let text = b"palette: 010203,111213,212223,313233,414243,515253,616263,717273,818283,919293,a1a2a3,b1b2b3,c1c2c3,d1d2d3,e1e2e3,f1f2f3\ntimestamp: 00:00:01:000, filepos: 0";
+    for b in 0..=255u8 {
+        for at in [14, 15, 17, 18] {
+            let mut unit = card;
+            unit[at] = b;
+            each(request(text, &unit, 0, [0; 4]));
+        }
+    }
+}
+
+fn nibbles(r: &mut Random) -> [u8; 2] {
+    let mut four = [r.byte(), r.byte()];
+    if r.once_in(3) {
+        four[r.below(2)] &= *r.pick(&[0x0F, 0xF0, 0x00]);
+    }
+    four
+}
+
+// Bands about the picture: some end a line before it, some start at its last.
+fn about(r: &mut Random, x: usize, y: usize, width: usize, height: usize) -> Vec<u8> {
+    let mut out = Vec::new();
+    for _ in 0..r.within(1, 4) {
+        let first = (y + r.below(height + 2)).saturating_sub(1).min(4095);
+        let last = (first + r.below(height + 1)).min(4095);
+        let n = r.below(5);
+        out.extend([(first / 256) as u8, first as u8, (n * 16 + last / 256) as u8, last as u8]);
+        let mut column = (x + r.below(width + 2)).saturating_sub(1);
+        for _ in 0..n {
+            put(&mut out, column);
+            out.extend(nibbles(r));
+            out.extend(nibbles(r));
+            column += if r.once_in(2) { 1 } else { r.within(1, width + 1) };
+        }
+    }
+    if r.once_in(2) {
+        out.extend([0x0F, 0xFF, 0xFF, 0xFF]);
+    }
+    out
+}
+
+// What is wrong with a request. Half of them are sound.
+#[derive(Clone, Copy, PartialEq)]
+enum Fault {
+    None,
+    Under4,
+    WrongC,
+    Parameters,
+    SmallS,
+    NoBands,
+    Unknown,
+    Inverted,
+    Offset,
+    RanOut,
+    HighByte,
+    Line(usize),
+    NoCue,
+    Past,
+    NoUnit,
+    Scratch,
+    Pixels,
+    Words,
+    Canvas,
+    FileDamaged,
+    TextDamaged,
+    FarApart,
+    Cut,
+    OtherPlace,
+}
+
+const LINES: [&str; 8] = [
+    "size: {}x5",
+    "size: 720x{}",
+    "palette: 0, {}, 1",
+    "timestamp: filepos: 0",
+    "timestamp: 0:0:1:0",
+    "timestamp: 0:{}:1, filepos: 0",
+    "timestamp: {}, filepos: 0",
+    "timestamp: 0:0:1, filepos: {}",
+];
+
+fn fault(r: &mut Random) -> Fault {
+    use Fault::*;
+    const FAULTS: [Fault; 22] = [
+        Under4, WrongC, Parameters, SmallS, NoBands, Unknown, Inverted, Offset, RanOut, HighByte, NoCue, Past, NoUnit, Scratch, Pixels, Words, Canvas, FileDamaged, TextDamaged, FarApart, Cut, OtherPlace,
+    ];
+    match r.below(2 * (LINES.len() + FAULTS.len())) {
+        i if i < LINES.len() => Line(i),
+        i if i < LINES.len() + FAULTS.len() => FAULTS[i - LINES.len()],
+        _ => None,
+    }
+}
+
+// A unit with bands about its picture, or none.
+fn banded(r: &mut Random, fault: Fault) -> Vec<u8> {
+    let (width, height) = (r.within(1, 24), r.within(1, 10));
+    let x1 = *r.pick(&[0, 1, 7, 300, 4096 - width]);
+    let y1 = *r.pick(&[0, 1, 9, 400, 4096 - height]);
+    let mut bytes = vec![0; 4];
+    bytes.extend(field::rows(r, width, height.div_ceil(2)));
+    let bottom = bytes.len();
+    bytes.extend(field::rows(r, width, height / 2));
+    let control = bytes.len();
+    let (mut offset, mut before) = (0, None);
+    for block in 0..r.within(1, 3) {
+        let start = bytes.len();
+        if let Some(before) = before.replace(start) {
+            set_word(&mut bytes, before + 2, start);
+        }
+        let delay = r.below(65536);
+        put(&mut bytes, delay);
+        // the last block names itself
+        put(&mut bytes, start);
+        if block == 0 || r.once_in(4) {
+            bytes.push(0x03);
+            bytes.extend(nibbles(r));
+            bytes.push(0x04);
+            bytes.extend(nibbles(r));
+        }
+        if block == 0 {
+            area(&mut bytes, x1, x1 + width - 1, y1, y1 + height - 1);
+            offset = bytes.len() + 1;
+            bytes.push(0x06);
+            put(&mut bytes, 4);
+            put(&mut bytes, bottom);
+        }
+        if r.once_in(2) || matches!(fault, Fault::NoBands | Fault::SmallS | Fault::Words) {
+            let mut payload = about(r, x1, y1, width, height);
+            if fault == Fault::NoBands {
+                bands::damage(r, &mut payload);
+            }
+            change(&mut bytes, &payload);
+            if fault == Fault::SmallS {
+                let at = bytes.len() - payload.len() - 2;
+                let size = r.below(2);
+                set_word(&mut bytes, at, size);
+            }
+        }
+        if r.once_in(2) {
+            bytes.push(r.below(3) as u8);
+        }
+        match fault {
+            Fault::Unknown => bytes.push(r.within(0x08, 0xFE) as u8),
+            Fault::Inverted if r.once_in(2) => area(&mut bytes, x1 + 1, x1, y1, y1),
+            Fault::Inverted => area(&mut bytes, x1, x1, y1 + 1, y1),
+            Fault::Parameters => {
+                let (command, most) = *r.pick(&[(3, 2), (4, 2), (5, 6), (6, 4), (7, 2)]);
+                bytes.push(command);
+                let some = r.below(most);
+                bytes.extend(vec![0; some]);
+                break;
+            }
+            _ => {}
+        }
+        bytes.push(0xFF);
+    }
+    let length = bytes.len();
+    set_word(&mut bytes, 0, length);
+    set_word(&mut bytes, 2, control);
+    match fault {
+        Fault::WrongC => {
+            let word = if r.once_in(2) { r.below(4) } else { length + r.within(1, 9) };
+            set_word(&mut bytes, 2, word);
+        }
+        Fault::Offset => set_word(&mut bytes, offset, length + r.below(3)),
+        Fault::RanOut => set_word(&mut bytes, offset, control - r.below(2)),
+        Fault::Under4 => {
+            bytes.truncate(r.within(2, 3));
+            let t = if r.once_in(3) { r.below(2) } else { bytes.len() };
+            set_word(&mut bytes, 0, t);
+        }
+        _ => {}
+    }
+    bytes
+}
+
+fn text(r: &mut Random, fault: Fault, starts: &[String], positions: &[usize]) -> Vec<u8> {
+    let mut lines: Vec<String> = Vec::new();
+    if !r.once_in(6) {
+        lines.push(format!("size: {}x{}", r.below(2000), r.below(2000)));
+    }
+    if !r.once_in(6) {
+        let tokens: Vec<String> = (0..if r.once_in(4) { r.below(20) } else { 16 }).map(|_| format!("{:06x}", r.below(1 << 24))).collect();
+        lines.push(format!("palette: {}", tokens.join(*r.pick(&[",", ", ", " "]))));
+    }
+    for (start, position) in starts.iter().zip(positions) {
+        lines.push(match r.below(8) {
+            0 => format!("timestamp:{start},filepos:0x{position:x}"),
+            1 => format!("timestamp: filepos: {position:X} , {start}"),
+            _ => format!("timestamp: {start}, filepos: {position:09x}"),
+        });
+    }
+    if r.once_in(10) {
+        let mut odd = String::new();
+        line(r, &mut odd);
+        lines.insert(r.below(lines.len() + 1), odd);
+    }
+    if let Fault::Line(i) = fault {
+        let wrong = match i {
+            6 => (*r.pick(&["2562047789", "9223372036854775807:0:0:0", "0:0:9223372036855", "1:9223372036854775807", "-2562047789"])).into(),
+            _ => {
+                let odd = number(r);
+                if odd.trim().is_empty() || r.once_in(2) { (*r.pick(&["g", "-", "+-1", "99999999999999999999999999", "1.5"])).into() } else { odd }
+            }
+        };
+        lines.insert(r.below(lines.len() + 1), LINES[i].replace("{}", &wrong));
+    }
+    let mut bytes = lines.join(*r.pick(&["\n", "\n", "\r\n", "\n# a remark\n\n"])).into_bytes();
+    if fault == Fault::HighByte {
+        let i = r.below(bytes.len());
+        bytes[i] = 0x80 | r.byte();
+    }
+    if fault == Fault::TextDamaged {
+        for _ in 0..r.within(1, 3) {
+            let i = r.below(bytes.len());
+            bytes[i] = if r.once_in(4) { r.byte() & 0x7F } else { *r.pick(b"0 x:,+-\nfF#\r9") };
+        }
+    }
+    bytes
+}
+
+fn generate(world: &World, r: &mut Random) -> Request {
+    let fault = fault(r);
+    let cues = r.within(1, 4);
+    let mut cue = r.below(cues);
+    let some = r.below(9);
+    let mut file = r.bytes(some);
+    let (mut starts, mut positions, mut time) = (Vec::new(), Vec::new(), 0);
+    for i in 0..cues {
+        let wrong = if i == cue { fault } else { Fault::None };
+        let mut unit = match r.below(30) {
+            0 if wrong == Fault::None => r.pick(&world.units).clone(),
+            1..8 if wrong == Fault::None => made(r),
+            _ => banded(r, wrong),
+        };
+        if unit.len() > 6000 {
+            unit = banded(r, wrong);
+        }
+        positions.push(file.len());
+        if r.once_in(2) && !matches!(wrong, Fault::Scratch | Fault::Under4) {
+            file.extend(&unit);
+        } else {
+            in_packets(r, &unit, &mut file);
+        }
+        let some = r.below(5);
+        file.extend(r.bytes(some));
+        time += if r.once_in(10) { 0 } else { r.below(10_000_000) };
+        starts.push(if fault == Fault::FarApart && r.once_in(2) { r.pick(&TIMES).to_string() } else { format!("{:02}:{:02}:{:02}:{:03}", time / 3_600_000, time / 60_000 % 60, time / 1000 % 60, time % 1000) });
+    }
+    if r.once_in(10) {
+        let (i, j) = (r.below(cues), r.below(cues));
+        starts.swap(i, j);
+    }
+    let mut n = [r.below(2), r.below(2), r.below(2), r.below(2)];
+    let position = positions[cue];
+    match fault {
+        Fault::NoCue => cue = *r.pick(&[cues, cues + 1, 65535]),
+        Fault::Past => positions[cue] = file.len() + r.below(3),
+        Fault::NoUnit => match r.below(3) {
+            0 => file[position..].fill(0),
+            1 => file.truncate(position + 1 + r.below(3)),
+            _ => {
+                let end = file.len().min(position + 4);
+                file[position..end].copy_from_slice(&[0, 0, 1, 0xB9][..end - position]);
+            }
+        },
+        Fault::Scratch => n[0] = r.within(2, 3),
+        Fault::Pixels => n[1] = r.within(2, 3),
+        Fault::Words => n[2] = r.within(2, 3),
+        Fault::Canvas => n[3] = r.within(2, 3),
+        Fault::FileDamaged => {
+            for _ in 0..r.within(1, 4) {
+                let i = r.within(position, file.len() - 1);
+                file[i] = if r.once_in(2) { r.byte() } else { *r.pick(&[0x00, 0x01, 0xB9, 0xBA, 0xBD, 0x20, 0x80, 0xFF]) };
+            }
+        }
+        Fault::Cut => file.truncate(r.within(position, file.len())),
+        Fault::OtherPlace => positions[cue] = r.below(file.len()),
+        _ => {}
+    }
+    let text = text(r, fault, &starts, &positions);
+    request(&text, &file, cue, n)
+}
+
+// Lent memory that keeps its pattern between requests, with a margin behind what is lent.
+#[derive(Default)]
+struct Lent {
+    scratch: Vec<u8>,
+    pixels: Vec<u8>,
+    words: Vec<u16>,
+    canvas: Vec<u8>,
+}
+
+const MARGIN: usize = 16;
+
+thread_local! {
+    static LENT: RefCell<Lent> = RefCell::new(Lent::default());
+}
+
+struct Answer {
+    refusal: u8,
+    start: i64,
+    numbers: [u64; port::SHOWN_NUMBERS],
+}
+
+// What the fronts of the buffers must hold.
+#[derive(Default)]
+struct Fronts<'a> {
+    scratch: &'a [u8],
+    pixels: &'a [u8],
+    words: &'a [u16],
+    canvas: &'a [u8],
+}
+
+// Whether a buffer has this front, and its pattern from there on; the pattern is put back.
+fn holds<T: Copy + PartialEq>(lent: &mut [T], room: usize, front: &[T], pattern: T) -> bool {
+    let same = front.len() <= room && lent[..front.len()] == *front && lent[front.len()..room + MARGIN].iter().all(|&v| v == pattern);
+    if same { lent[..front.len()].fill(pattern) } else { lent.fill(pattern) }
+    same
+}
+
+impl Lent {
+    fn ask(&mut self, q: &Request, rooms: [usize; 4]) -> Answer {
+        let (text, file, cue) = parts(&q.bytes);
+        let [a, b, c, d] = rooms;
+        for (buffer, room) in [(&mut self.scratch, a), (&mut self.pixels, b), (&mut self.canvas, d)] {
+            if buffer.len() < room + MARGIN {
+                buffer.resize(room + MARGIN, BYTE);
+            }
+        }
+        if self.words.len() < c + MARGIN {
+            self.words.resize(c + MARGIN, WORD);
+        }
+        let (mut start, mut numbers) = (START, [NUMBER as u64; port::SHOWN_NUMBERS]);
+        let lent = port::Lent { scratch: &mut self.scratch[..a], pixels: &mut self.pixels[..b], words: &mut self.words[..c], canvas: &mut self.canvas[..d] };
+        let refusal = port::decode_cue(text, file, cue, lent, &mut start, &mut numbers);
+        Answer { refusal, start, numbers }
+    }
+
+    // Notes where a buffer does not have its front, or is written past it.
+    fn left(&mut self, o: &mut Outcome, rooms: [usize; 4], fronts: Fronts) {
+        let same = [
+            holds(&mut self.scratch, rooms[0], fronts.scratch, BYTE),
+            holds(&mut self.pixels, rooms[1], fronts.pixels, BYTE),
+            holds(&mut self.words, rooms[2], fronts.words, WORD),
+            holds(&mut self.canvas, rooms[3], fronts.canvas, BYTE),
+        ];
+        for (same, name) in same.into_iter().zip(["scratch", "the map", "the words", "the canvas"]) {
+            o.must(same, || format!("{name}: other bytes than asked for, or written past them"));
+        }
+    }
+
+    // The answer must be a refusal with that number, and nothing stored but a joined unit.
+    fn refused(&mut self, o: &mut Outcome, a: &Answer, number: u8, rooms: [usize; 4], scratch: &[u8]) {
+        o.refusal = a.refusal;
+        o.must(a.refusal == number, || format!("{number} is asked for; the port says {}", a.refusal));
+        o.must(a.start == START && a.numbers == [NUMBER as u64; port::SHOWN_NUMBERS], || "start or numbers are written on a refusal".into());
+        self.left(o, rooms, Fronts { scratch, ..Default::default() });
+    }
+}
+
+fn compare(side: &Side, q: &Request) -> Outcome {
+    LENT.with(|lent| compared(&mut lent.borrow_mut(), side, q))
+}
+
+const SHORT: [&str; 3] = ["22: a map is lent, and too short", "23: words are lent, and too few", "24: a canvas is lent, and too short"];
+const BEFORE: &str = "22 to 24 are checked before 25 and 26";
+
+fn compared(lent: &mut Lent, side: &Side, q: &Request) -> Outcome {
+    let mut o = Outcome::default();
+    let (text, file, cue) = parts(&q.bytes);
+    // as much as a refusal before the unit may meet
+    let some = [64, 64, 64, 256];
+    let (index, panicked) = expected(side, text, usize::MAX);
+    o.panicked = panicked;
+    let index = match index {
+        Expected::Refused(number, rule) => {
+            o.rule = rule;
+            let a = lent.ask(q, some);
+            lent.refused(&mut o, &a, number, some, &[]);
+            return o;
+        }
+        Expected::Given(index) => index,
+    };
+    if cue >= index.cues.len() {
+        o.rule = Some("11: a cue by its number is added");
+        let a = lent.ask(q, some);
+        lent.refused(&mut o, &a, 11, some, &[]);
+        return o;
+    }
+    let mut lasts = None;
+    let seen = tried(|| (side.seen)(&index, file, cue, false)).or_else(|words| {
+        // the difference of two starts leaves signed 64 bits, of these or of others in the text: without the others there is none
+        o.rule = words.contains("overflow").then_some("durations: the ceiling, and a difference below signed 64 bits");
+        o.panicked = Some(words);
+        lasts = index.cues.get(cue + 1).map(|next| (next.0 as i128 - index.cues[cue].0 as i128).clamp(0, i64::MAX as i128) as i64);
+        tried(|| (side.seen)(&index, file, cue, true))
+    });
+    match seen {
+        Err(words) => {
+            o.panicked = Some(words);
+            o.rule = None;
+            let a = lent.ask(q, some);
+            o.refusal = a.refusal;
+            *lent = Lent::default();
+        }
+        Ok(Seen::Skipped) => {
+            o.rule = Some("12: the original leaves the cue out");
+            let a = lent.ask(q, some);
+            lent.refused(&mut o, &a, 12, some, &[]);
+        }
+        Ok(Seen::None { handed_on, refused }) => {
+            o.rule = Some("13: the original hands on the rest of the file, and its decoder refuses that");
+            o.must(handed_on && refused, || "no unit, and the original does not refuse the rest of the file".into());
+            let a = lent.ask(q, some);
+            lent.refused(&mut o, &a, 13, some, &[]);
+        }
+        Ok(Seen::Unit { unit, joined, same, shows }) => {
+            o.must(same, || "the original's packet has another unit than it finds".into());
+            let scratch = if joined { by_mode(q.n[0], unit.len()) } else { q.n[0] };
+            if joined && scratch < unit.len() {
+                o.rule = Some("14: scratch is lent, and too short");
+                let rooms = [scratch, 64, 64, 256];
+                let a = lent.ask(q, rooms);
+                lent.refused(&mut o, &a, 14, rooms, &[]);
+                return o;
+            }
+            let stored = if joined { &unit[..] } else { &[] };
+            match shows {
+                Err(message) => declined(&mut o, lent, q, number_of(&message), scratch, stored),
+                Ok(mut painted) => {
+                    if o.panicked.is_some() {
+                        painted.duration = lasts;
+                    }
+                    found(&mut o, lent, q, &painted, scratch, stored, &unit);
+                }
+            }
+        }
+    }
+    o
+}
+
+// How much of each buffer is lent for the fixed list: what the request says of what the original needs, and enough where it refuses.
+pub fn rooms(side: &Side, q: &Request) -> [usize; 4] {
+    let some = [64, 1024, 256, 4096];
+    let (text, file, cue) = parts(&q.bytes);
+    let Expected::Given(index) = expected(side, text, usize::MAX).0 else { return some };
+    if cue >= index.cues.len() {
+        return some;
+    }
+    let Ok(Seen::Unit { unit, joined, shows, .. }) = tried(|| (side.seen)(&index, file, cue, true)) else { return some };
+    let scratch = if joined { by_mode(q.n[0], unit.len()) } else { q.n[0] };
+    match shows {
+        Ok(p) => [scratch, by_mode(q.n[1], p.decoded.map.len()), by_mode(q.n[2], p.decoded.words.len()), by_mode(q.n[3], p.canvas.len())],
+        Err(_) => [scratch, if q.n[1] > 1 { 0 } else { some[1] }, some[2], some[3]],
+    }
+}
+
+// A unit that the original refuses. How much one with 25 or 26 would need, it does not say: more is lent until that is enough.
+fn declined(o: &mut Outcome, lent: &mut Lent, q: &Request, number: u8, scratch: usize, stored: &[u8]) {
+    let late = number >= 25;
+    let mut rooms = [scratch, 64, 64, 256];
+    if late && q.n[1] > 1 {
+        // every picture has a pixel
+        rooms[1] = 0;
+        o.rule = Some(SHORT[0]);
+        let a = lent.ask(q, rooms);
+        return lent.refused(o, &a, 22, rooms, stored);
+    }
+    let mut a = lent.ask(q, rooms);
+    while late && (22..25).contains(&a.refusal) && rooms[3] < 1 << 26 && rooms[2] < 1 << 20 {
+        o.rule = Some(BEFORE);
+        match a.refusal {
+            22 => rooms[1] *= 16,
+            23 => rooms[2] *= 16,
+            _ => rooms[3] *= 16,
+        }
+        // what a shorter buffer was refused with left all as it was, but for scratch
+        a = lent.ask(q, rooms);
+    }
+    lent.refused(o, &a, number, rooms, stored);
+}
+
+// A unit that the original paints.
+fn found(o: &mut Outcome, lent: &mut Lent, q: &Request, p: &Painted, scratch: usize, stored: &[u8], unit: &[u8]) {
+    let needs = [p.decoded.map.len(), p.decoded.words.len(), p.canvas.len()];
+    let rooms = [scratch, by_mode(q.n[1], needs[0]), by_mode(q.n[2], needs[1]), by_mode(q.n[3], needs[2])];
+    let a = lent.ask(q, rooms);
+    o.refusal = a.refusal;
+    if let Some(short) = (0..3).find(|&i| rooms[i + 1] < needs[i]) {
+        o.rule = Some(SHORT[short]);
+        return lent.refused(o, &a, 22 + short as u8, rooms, stored);
+    }
+    o.both = a.refusal == 0 && o.panicked.is_none();
+    o.must(a.refusal == 0, || format!("the original accepts; the port says {}", a.refusal));
+    let start = p.start.expect("a start");
+    o.must(p.time == p.start, || "the original's frame has another time than its packet".into());
+    o.must(a.start == start || a.refusal != 0, || format!("the start {start}; the port says {}", a.start));
+    let codes = crate::codes_read(|| (crate::counting::adapter::SIDE.unit)(unit));
+    let of = |place: usize| p.decoded.numbers[place] as u64;
+    let asked = [
+        p.duration.is_some() as u64,
+        p.duration.unwrap_or(0) as u64,
+        of(port::START),
+        of(port::STOP),
+        of(0),
+        of(1),
+        p.stride as u64 / 4,
+        (p.canvas.len() / p.stride) as u64,
+        codes as u64,
+    ];
+    o.must(a.numbers == asked || a.refusal != 0, || format!("the numbers {asked:?}; the port says {:?}", a.numbers));
+    lent.left(o, rooms, Fronts { scratch: stored, pixels: &p.decoded.map, words: &p.decoded.words, canvas: &p.canvas });
+}
