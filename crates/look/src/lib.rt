@@ -94,9 +94,9 @@ pub fn spans_line(words: &[u16], y: u16) -> bool
         if is_between(words[at], words[at + 1], y) {
             return true;
         }
-        let from = at + 3;
-        let n = lesser(words[at + 2] as usize, (words.len() - from) / 3);
-        at = from + 3 * n;
+        let next = at + 3;
+        let n = lesser(words[at + 2] as usize, (words.len() - next) / 3);
+        at = next + 3 * n;
     }
     false
 }

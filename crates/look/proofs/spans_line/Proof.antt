@@ -49,8 +49,8 @@ is-between-requires c κs = search needs
 returns : tie.Need-returns Inv-loop μ-loop
 returns c = line-found (c .before .before .before .before .before .before .before .args .y) (c .before .before .before .before .before .loop .at) (now (c .before .before .before .before .before .before .before .args .words)) (omega (arith, c .before .before .before .before .before .loop .inv .inside, c .before .before .before .before .loop-test .taken, c .before .before .before .before .before .before .before .good .0)) (sym (c .before .is-between .ensures) ∙ c .if1 .taken) ∙ c .before .before .before .before .before .loop .inv .goes
 
-add-from : tie.Need-add-from Inv-loop μ-loop
-add-from c = omega (arith, c .before .before .before .before .before .loop .inv .inside, c .before .before .before .before .loop-test .taken, c .before .before .before .before .before .before .before .good .0)
+add-next : tie.Need-add-next Inv-loop μ-loop
+add-next c = omega (arith, c .before .before .before .before .before .loop .inv .inside, c .before .before .before .before .loop-test .taken, c .before .before .before .before .before .before .before .good .0)
 
 add-lesser : tie.Need-add-lesser Inv-loop μ-loop
 add-lesser c = omega (arith, c .before .before .before .before .before .loop .inv .inside, c .before .before .before .before .loop-test .taken, c .before .before .before .before .before .before .before .good .0)
@@ -105,7 +105,7 @@ spans-line-spec =
     shared-slice-read-is-between-2
     is-between-requires
     returns
-    add-from
+    add-next
     add-lesser
     mul-lesser
     shared-slice-read-lesser
