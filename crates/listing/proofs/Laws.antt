@@ -7,8 +7,8 @@ use mathlib.Core.Path.{_≡_, refl, sym, ap, _∙_, subst}
 use mathlib.Core.Bool.{Bool, true, false, cond}
 use mathlib.Core.List.{List, [], _∷_, _++_}
 use lib.Dec.{ltb}
-use lib.ListN.{length, set, length-append}
-use lib.Seq.{sets}
+use lib.ListN.{length, set, take, length-append}
+use lib.Seq.{sets, length-sets, length-take-le}
 use borrow.Author.Tests.{ltb-true, ltb-false, lt-ltb, le-ltb}
 use Rattle.outcome.proofs.Laws.{sets-append, Copying, copying-ends}
 use Rattle.listing.specs.Lines.{digitsIn, decimal}
@@ -107,3 +107,14 @@ written i p =
       stored = p .stored;
       inside = omega (arith, p .within);
     }
+
+-- a line keeps its length, and its bytes are a part of it
+module _ {a l : List ℕ} {r : ℕ} {l′ : List ℕ} (w : Written a l r l′) (h : length l ≡ 256) where
+  pub written-long : length l′ ≡ 256
+  written-long = ap length (w .stored) ∙ length-sets l 0 a ∙ h
+
+  pub written-within : r ≤ length l′
+  written-within = omega (arith, w .inside, written-long)
+
+  pub written-part : r ≡ length (take r l′)
+  written-part = sym (length-take-le r l′ written-within)

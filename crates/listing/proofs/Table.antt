@@ -9,7 +9,7 @@ use mathlib.Core.List.{List, [], _∷_, _++_, map}
 use lib.Dec.{leb}
 use lib.IntN.{ℤ, pos, _-ℤ_}
 use lib.ListN.{length, getD, drop}
-use lib.Seq.{sets, sets-eq}
+use lib.Seq.{sets, sets-eq, length-sets}
 use borrow.Author.Tests.{le-leb, lt-leb}
 use Rattle.outcome.specs.Outcome.{Res, ok, refuse, need, andThen, mapRes, listed, no-cue}
 use Rattle.outcome.proofs.Laws.{ok-not-refuse, ok-injective}
@@ -95,13 +95,15 @@ table-stored cs zs ps h i =
 -- ---- The first line
 module _ (there : Bool) (text file l : List ℕ) where
   -- a file is missing or too long
-  pub head-none : readable there text file ≡ false → (r : Head) (l′ : List ℕ) (zs : List ℤ) (ps : List ℕ) → (Put 210 l 0 fileLine (r .size) l′) × (r .cues ≡ 0) → Headed there text file l r zs ps l′
+  pub head-none : readable there text file ≡ false → (r : Head) (l′ : List ℕ) (zs : List ℤ) (ps : List ℕ) → (Put 210 l 0 fileLine (r .size) l′) × (r .cues ≡ 0) → Headed there text file zs ps l r zs ps l′
   unfolding tableOf
   head-none e r l′ zs ps p =
       record {
         line = rw e (written (omega arith) (p .0));
         count = rw e (p .1);
         table = rw (e, p .1);
+        starts-long = refl;
+        positions-long = refl;
       }
 
   module _ (e : readable there text file ≡ true) (small : length text ≤ 65536) (zs : List ℤ) (ps : List ℕ) (lz : length zs ≡ 65537) (lp : length ps ≡ 65537)
@@ -109,12 +111,18 @@ module _ (there : Bool) (text file l : List ℕ) where
     opened : linesWith zs ps text ≡ textOf text
     opened = text-open text (min (length zs) (length ps)) (omega arith)
 
+    kept-starts : length zs′ ≡ length zs
+    kept-starts = ap length (d .stored .starts-are) ∙ length-sets zs 0 (startsOf (listed (linesWith zs ps text)))
+
+    kept-positions : length ps′ ≡ length ps
+    kept-positions = ap length (d .stored .positions-are) ∙ length-sets ps 0 (positionsOf (listed (linesWith zs ps text)))
+
     -- the index is refused
-    pub head-refused : (a .refused ≡ 0 → ⊥) → (r : Head) (l′ : List ℕ) → (Put 210 l 0 (indexLine (a .refused)) (r .size) l′) × (r .cues ≡ 0) → Headed there text file l r zs′ ps′ l′
+    pub head-refused : (a .refused ≡ 0 → ⊥) → (r : Head) (l′ : List ℕ) → (Put 210 l 0 (indexLine (a .refused)) (r .size) l′) × (r .cues ≡ 0) → Headed there text file zs ps l r zs′ ps′ l′
     unfolding idxAnswer tableOf
     head-refused h r l′ p = go (textOf text) refl (d .answer ∙ ap idxAnswer opened)
       where
-        go : (x : Res (List Said)) → textOf text ≡ x → a ≡ idxAnswer (textOf text) → Headed there text file l r zs′ ps′ l′
+        go : (x : Res (List Said)) → textOf text ≡ x → a ≡ idxAnswer (textOf text) → Headed there text file zs ps l r zs′ ps′ l′
         go (ok ls) q g = absurd (h (ap (λ (b : IdxAnswer). b .refused) (g ∙ ap idxAnswer q)))
         go (refuse n) q g =
             let w : a .refused ≡ n = ap (λ (b : IdxAnswer). b .refused) (g ∙ ap idxAnswer q) in
@@ -122,14 +130,16 @@ module _ (there : Bool) (text file l : List ℕ) where
               line = rw (e, q) (written (omega arith) (put-as (ap indexLine w) (p .0)));
               count = rw (e, q) (p .1);
               table = rw (e, q, p .1);
+              starts-long = kept-starts;
+              positions-long = kept-positions;
             }
 
     -- it is accepted
-    pub head-counted : a .refused ≡ 0 → (r : Head) (l′ : List ℕ) → (Put 210 l 0 (cuesLine (a .cues)) (r .size) l′) × (r .cues ≡ a .cues) → Headed there text file l r zs′ ps′ l′
+    pub head-counted : a .refused ≡ 0 → (r : Head) (l′ : List ℕ) → (Put 210 l 0 (cuesLine (a .cues)) (r .size) l′) × (r .cues ≡ a .cues) → Headed there text file zs ps l r zs′ ps′ l′
     unfolding idxAnswer
     head-counted h r l′ p = go (textOf text) refl (d .answer ∙ ap idxAnswer opened)
       where
-        go : (x : Res (List Said)) → textOf text ≡ x → a ≡ idxAnswer (textOf text) → Headed there text file l r zs′ ps′ l′
+        go : (x : Res (List Said)) → textOf text ≡ x → a ≡ idxAnswer (textOf text) → Headed there text file zs ps l r zs′ ps′ l′
         go (refuse n) q g =
             let w : a .refused ≡ n = ap (λ (b : IdxAnswer). b .refused) (g ∙ ap idxAnswer q) in
             absurd (text-refuses none text n q (sym w ∙ h))
@@ -143,6 +153,8 @@ module _ (there : Bool) (text file l : List ℕ) where
               line = rw (e, q) (written (omega arith) (put-as (ap cuesLine w) (p .0)));
               count = rw (e, q) (p .1 ∙ w);
               table = rw (e, q, p .1, w, s, t) (table-stored (cuesOf ls) zs ps (omega arith) (omega arith));
+              starts-long = kept-starts;
+              positions-long = kept-positions;
             }
 
 -- both files can be read, or one of them cannot

@@ -78,8 +78,10 @@ pub record Exactly (cs : List Cue) (f : List ℕ) (n : ℕ) (l l′ : List ℕ) 
   pub exactly-when : (text : List ℕ) (ls : List Said) → IsText text ls → cuesOf ls ≡ cs → IsOk (shownFor cs f n) ↔ ((x : Reading) × IsReading text f (wanted n) x)
   pub same : (text : List ℕ) (x : Reading) → cuesOf (x .lines) ≡ cs → IsReading text f (wanted n) x → l′ ≡ sets l 0 (shownLine n (shown x))
 
--- ---- The first line of a title: its length, the number of cues, and the table that they are in
-pub record Headed (there : Bool) (text file l : List ℕ) (r : Head) (starts′ : List ℤ) (positions′ : List ℕ) (l′ : List ℕ) : Type 0 where
+-- ---- The first line of a title: its length, the number of cues, and the table that they are in; the buffers keep their lengths
+pub record Headed (there : Bool) (text file : List ℕ) (starts : List ℤ) (positions l : List ℕ) (r : Head) (starts′ : List ℤ) (positions′ l′ : List ℕ) : Type 0 where
   pub line : Written (headLine there text file) l (r .size) l′
   pub count : r .cues ≡ length (listedCues there text file)
   pub table : tableOf starts′ positions′ (r .cues) ≡ listedCues there text file
+  pub starts-long : length starts′ ≡ length starts
+  pub positions-long : length positions′ ≡ length positions

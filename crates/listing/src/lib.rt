@@ -332,7 +332,7 @@ pub fn title_line(
     positions: &mut [u64; 65537],
     line: &mut [u8; 256],
 ) -> Head
-    ensures { λ r. ⌜ Headed there (now (text .entry)) (now (file .entry)) (now (line .entry)) r (now (starts .exit)) (now (positions .exit)) (now (line .exit)) ⌝ }
+    ensures { λ r. ⌜ Headed there (now (text .entry)) (now (file .entry)) (now (starts .entry)) (now (positions .entry)) (now (line .entry)) r (now (starts .exit)) (now (positions .exit)) (now (line .exit)) ⌝ }
 {
     if !there {
         return no_file(line);
