@@ -110,14 +110,14 @@ cue-out [] n h = refl
 cue-out (c ∷ cs) zero h = absurd (omega arith)
 cue-out (c ∷ cs) (suc n) h = cue-out cs n (omega arith)
 
-last-duration : (cs : List Cue) (n : ℕ) → length cs ≤ n + 1 → durationOf cs n ≡ none
+pub last-duration : (cs : List Cue) (n : ℕ) → length cs ≤ n + 1 → durationOf cs n ≡ none
 unfolding durationOf
 last-duration [] n h = refl
 last-duration (c ∷ []) n h = refl
 last-duration (c ∷ d ∷ cs) zero h = absurd (omega arith)
 last-duration (c ∷ d ∷ cs) (suc n) h = last-duration (d ∷ cs) n (omega arith)
 
-next-duration : (cs : List Cue) (n : ℕ) (c d : Cue) → cueAt cs n ≡ some c → cueAt cs (suc n) ≡ some d → durationOf cs n ≡ some (clip (d .start -ℤ c .start))
+pub next-duration : (cs : List Cue) (n : ℕ) (c d : Cue) → cueAt cs n ≡ some c → cueAt cs (suc n) ≡ some d → durationOf cs n ≡ some (clip (d .start -ℤ c .start))
 unfolding durationOf cueAt
 next-duration [] n c d e f = never (cc)
 next-duration (x ∷ []) zero c d e f = never (cc)

@@ -294,7 +294,8 @@ fn refused_cue(number: u8) -> CueAnswer
 }
 
 // The time up to the next start: 0 at least, and the largest signed number at most.
-fn duration_of(start: i64, next: i64) -> u64
+// Ruled out: a difference below 0 wrapped; one above the largest signed number wrapped.
+pub fn duration_of(start: i64, next: i64) -> u64
     ensures { λ r. ⌜ r ≡ clip (next -ℤ start) ⌝ }
 {
     if start < next {

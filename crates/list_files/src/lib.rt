@@ -1,0 +1,66 @@
+// A title's two files, read, and its lines, written. What is written comes from `listing`; no contract can say what is read or written.
+use libc::STDOUT_FILENO;
+ghost use Rattle.io.specs.Counts.{Counts};
+
+// What was read of a file.
+struct Bytes {
+    // Whether it is there, and could be read.
+    there: bool,
+    // How many of its bytes are in the front of the buffer.
+    size: usize,
+}
+
+// As many bytes of a file as the buffer holds. One longer than the longest file that is listed, it tells a file that is too long.
+fn read_file(path: &[u8], buffer: &mut [u8]) -> Bytes
+    ensures { λ r. ⌜ Counts (r .size) (now (buffer .exit)) ⌝ }
+{
+    let fd = os::open_read(path);
+    if fd < 0 {
+        return Bytes {
+            there: false,
+            size: 0,
+        };
+    }
+    // a folder opens too, and then no read of it succeeds
+    let there = libc::read(fd, &mut buffer[..0]) >= 0;
+    let size = io::read_full(fd, buffer);
+    libc::close(fd);
+    Bytes { there, size }
+}
+
+// A line for each cue. A unit has at most 65,535 bytes, and a line at most 210.
+fn write_cues(file: &[u8], starts: &[i64], positions: &[u64], cues: usize) {
+    let mut scratch = [0u8; 65536];
+    let mut line = [0u8; 256];
+    let mut n = 0;
+    while n < cues {
+        let size = listing::cue_line(file, starts, positions, cues, n, &mut scratch, &mut line);
+        io::write_all(STDOUT_FILENO, &line[..size]);
+        n += 1;
+    }
+}
+
+// The title whose index and file have these paths. A text of 65,536 bytes has at most 65,537 lines, and so no more cues.
+pub fn list_title(index: &[u8], file: &[u8]) {
+    let mut text = [0u8; 65537];
+    let mut bytes = [0u8; 65537];
+    let a = read_file(index, &mut text);
+    let b = read_file(file, &mut bytes);
+    let there = if a.there { b.there } else { false };
+    let n = a.size;
+    let m = b.size;
+    let mut starts = [0i64; 65537];
+    let mut positions = [0u64; 65537];
+    let mut line = [0u8; 256];
+    let head = listing::title_line(
+        there,
+        &text[..n],
+        &bytes[..m],
+        &mut starts,
+        &mut positions,
+        &mut line,
+    );
+    let size = head.size;
+    io::write_all(STDOUT_FILENO, &line[..size]);
+    write_cues(&bytes[..m], &starts, &positions, head.cues);
+}

@@ -1,0 +1,5 @@
+pub mod Laws
+pub mod Signed
+pub mod Units
+pub mod Table
+pub mod Claim

@@ -1,0 +1,20 @@
+-- `listing::put_found` meets its contract: the line of the unit's bytes. Assumes nothing.
+use borrow.Author.Needs.{needs}
+use mir.Syntax.{w64}
+use mir.Facts.{toZ-ofZ}
+use Rattle.listing.proofs.Units.{part-line}
+use Rattle.listing.specs.Answers.{durationIs}
+use Rattle.listing.proofs.put_found.Statement.{statement}
+use Rattle.listing.proofs.put_found.Tie as tie
+
+unit-part-requires : tie.Need-unit-part-requires
+unit-part-requires c κs = search needs
+
+put-unit-requires : tie.Need-put-unit-requires
+put-unit-requires c κs = search needs
+
+returns : tie.Need-returns
+returns c = part-line (c .before .before .before .before .before .args .n) (c .before .before .before .before .before .args .start) (durationIs (c .before .before .before .before .before .args .lasts) (c .before .before .before .before .before .args .duration)) _ (toZ-ofZ {w = w64} (c .before .before .before .before .before .fits .start)) _ _ _ (c .before .before .unit-part .ensures) (c .put-unit .ensures)
+
+pub put-found-spec : {M : Type 1} → statement M
+put-found-spec = tie.close (tie.spec unit-part-requires put-unit-requires returns)

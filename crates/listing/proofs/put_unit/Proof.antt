@@ -1,0 +1,41 @@
+-- `listing::put_unit` meets its contract: the record's line, or the refusal's. Assumes nothing.
+use borrow.Author.Needs.{needs}
+use mir.Syntax.{w64}
+use mir.Facts.{toZ-ofZ}
+use Rattle.listing.proofs.Units.{shows-sides, shows-line, refuses-line}
+use Rattle.listing.specs.Answers.{durationIs}
+use Rattle.listing.proofs.put_unit.Statement.{statement}
+use Rattle.listing.proofs.put_unit.Tie as tie
+
+measure-spu-requires : tie.Need-measure-spu-requires
+measure-spu-requires c κs = search needs
+
+enum-known-s : tie.Need-enum-known-s
+enum-known-s c = search needs
+
+put-shown-requires : tie.Need-put-shown-requires
+put-shown-requires c κs = shows-sides _ _ _ (c .before .before .before .before .measure-spu .ensures) (c .before .before .s .given .1)
+
+enum-known-number : tie.Need-enum-known-number
+enum-known-number c = search needs
+
+put-refused-requires : tie.Need-put-refused-requires
+put-refused-requires c κs = search needs
+
+returns : tie.Need-returns
+returns c = shows-line (c .before .before .before .before .before .before .before .args .n) (c .before .before .before .before .before .before .before .args .start) (durationIs (c .before .before .before .before .before .before .before .args .lasts) (c .before .before .before .before .before .before .before .args .duration)) _ (toZ-ofZ {w = w64} (c .before .before .before .before .before .before .before .fits .start)) _ _ _ _ (c .before .before .before .before .before .measure-spu .ensures) (c .before .before .before .s .given .1) (c .put-shown .ensures)
+
+returns-2 : tie.Need-returns-2
+returns-2 c = refuses-line (c .before .before .before .before .before .before .before .args .n) (c .before .before .before .before .before .before .before .args .start) (durationIs (c .before .before .before .before .before .before .before .args .lasts) (c .before .before .before .before .before .before .before .args .duration)) _ _ _ _ (c .before .before .before .before .before .measure-spu .ensures) (c .before .before .before .number .given .1) (c .put-refused .ensures)
+
+pub put-unit-spec : {M : Type 1} → statement M
+put-unit-spec =
+    tie.close
+    (tie.spec
+    measure-spu-requires
+    enum-known-s
+    put-shown-requires
+    enum-known-number
+    put-refused-requires
+    returns
+    returns-2)

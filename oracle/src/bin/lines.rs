@@ -1,0 +1,32 @@
+// What the original says of a title, as the lines of the list program: `lines DIR`. A refused index has no number, as the original gives none.
+use oracle::side::{Spot, number_of};
+use std::fs;
+use std::path::PathBuf;
+
+fn main() {
+    let folder = PathBuf::from(std::env::args().nth(1).expect("a folder"));
+    let text = fs::read_to_string(folder.join("title.idx")).expect("title.idx");
+    let file = fs::read(folder.join("title.sub")).expect("title.sub");
+    let side = oracle::original::adapter::SIDE;
+    let Ok(index) = (side.index)(&text) else {
+        println!("index refused");
+        return;
+    };
+    println!("cues {}", index.cues.len());
+    for (n, &(start, position)) in index.cues.iter().enumerate() {
+        let duration = (side.duration)(start, index.cues.get(n + 1).map(|c| c.0)).map_or("-".to_string(), |d| d.to_string());
+        let unit = match (side.spot)(&file, position as usize) {
+            Spot::Skipped => Err(12),
+            Spot::None { .. } => Err(13),
+            Spot::Unit { unit, .. } => Ok(unit),
+        };
+        let shown = unit.and_then(|unit| {
+            let codes = oracle::codes_read(|| (oracle::counting::adapter::SIDE.unit)(&unit));
+            (side.unit)(&unit).map(|d| (d, codes)).map_err(|words| number_of(&words))
+        });
+        match shown {
+            Ok((d, codes)) => println!("{n} {start} {duration} {} {} {} {} {} {} {codes}", d.numbers[0], d.numbers[1], d.width, d.height, d.numbers[7], d.numbers[9]),
+            Err(number) => println!("{n} refused {number}"),
+        }
+    }
+}
