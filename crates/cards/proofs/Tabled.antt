@@ -1,9 +1,11 @@
--- Every card of the table holds: one computation over the whole table, and each card from it. Assumes nothing.
+-- Every card of the table holds: one computation over those of bytes and one over those of lines, the title of 2 by 2 in three steps, its
+-- canvas from its reading, and each card from these. Assumes nothing.
 use Prim.Native.Nat.{ℕ}
-use mathlib.Core.Path.{_≡_, refl, ap}
+use mathlib.Core.Path.{_≡_, refl, sym, ap, ap₂, _∙_}
+use mathlib.Core.Bool.{true}
 use mathlib.Core.List.{List, [], _∷_, _++_, map}
-use native.Mathlib.Omega.{arith}
 use lib.ListN.{length, getD, replicate}
+use Rattle.outcome.specs.Outcome.{ok}
 use Rattle.outcome.specs.Lists.{listFuel, listFrom}
 use Rattle.grammar.specs.Bytes.{word, nibble, nibbles}
 use Rattle.grammar.specs.Rows.{paints, afterCodes, align}
@@ -23,42 +25,85 @@ use Rattle.control.specs.Answers.{spuOf}
 use Rattle.spu.specs.Unit.{rowsAt, unitAt}
 use Rattle.grammar.specs.IndexNumbers.{numeral}
 use Rattle.grammar.specs.Index.{startOf}
-use Rattle.idx_numbers.specs.Parts.{all, split}
+use Rattle.idx_numbers.specs.Parts.{front, rest, all, shorn, trim, split, strip}
+use Rattle.idx_numbers.specs.Times.{checked}
 use Rattle.idx_numbers.specs.Numbers.{unsigned, signed, bare}
-use Rattle.idx_lines.specs.Lines.{steps}
-use Rattle.idx_lines.specs.Lines as lines
+use Rattle.grammar.specs.IndexCues.{cuesOf, cueAt, durationOf}
+use Rattle.idx_lines.specs.Lines.{steps, firstOf, lastOf, partsAt}
+use Rattle.idx.specs.Text.{linesIn, textIn}
+use Rattle.listing.specs.Lines.{digitsIn, decimal, shownLine, refusedLine, cuesLine, fileLine}
+use Rattle.listing.specs.Title.{unitFor, shownFor, readable, cuesIn}
+use Rattle.idx_lines.specs.Lines as text-lines
 use Rattle.idx_lines.specs.Answers.{timeAt}
 use Rattle.grammar.specs.Picture.{evens}
 use Rattle.demo.specs.Codes.{runs, cut, marksOf, digits, nibblesOf, packed, pictureRows, fieldNibbles}
 use Rattle.demo.specs.Unit.{allColours, pictureOk, sizedUnit, demoAt}
 use Rattle.demo.specs.Unit as demo
+use native.Mathlib.Omega.{arith}
 use Rattle.grammar.specs.Reading.{wordsOf}
-use Rattle.grammar.proofs.ReadingLine.{line}
-use Rattle.grammar.proofs.Readings.{small, small-file, small-passes, small-shown, small-words, small-canvas}
+use Rattle.grammar.proofs.Readings as readings
 use Rattle.vobsub.specs.Call.{wanted, lent}
 use Rattle.vobsub.proofs.Claim.{reading-iff}
-use Rattle.cards.specs.Table.{Card, shows, cue, code, field, fields, unit, found, written, upper, position, start, title, parts, table}
+use Rattle.cards.specs.Table.{Card, code, field, fields, unit, found, written, upper, position, start, small-text, small-file, small-cue, small-shown, shows, cue, title, small-title, small-painted, bytes, lines, table}
+
+abbrev gotOf : List Card → List (List ℕ)
+gotOf = map (λ (c : Card). c .got)
+
+abbrev wantOf : List Card → List (List ℕ)
+wantOf = map (λ (c : Card). c .want)
+
+bytes-hold : gotOf bytes ≡ wantOf bytes
+unfolding bytes code field fields unit found written upper evens runs cut marksOf digits nibblesOf packed pictureRows fieldNibbles allColours pictureOk sizedUnit demoAt demo.unitOf position start numeral startOf all split unsigned signed bare text-lines.fields steps timeAt joined unitOf leading header1At headerAt bodyAt keptAt packAt privateAt kindAt packetAt packetsAt isBare formAt listFuel listFrom word nibble nibbles paints afterCodes align rowPixels codesIn indexMap untold tellBlock tellChain topEnd codeFrom codeAt rowAt fieldAt rowsFrom paintField decoded rowCounts fieldCounts weave lowerAt fieldsAt plainAt changeAt orderAt commandAt commandsAt blockAt blocksAt headFits chainAt controlAt spuOf entryWords bandWords rowsAt unitAt
+bytes-hold = refl
+
+lines-hold : gotOf lines ≡ wantOf lines
+unfolding lines front rest shorn trim strip checked cuesOf cueAt durationOf firstOf lastOf partsAt text-lines.lineOf linesIn textIn digitsIn decimal shownLine refusedLine cuesLine fileLine unitFor shownFor code field fields unit found written upper evens runs cut marksOf digits nibblesOf packed pictureRows fieldNibbles allColours pictureOk sizedUnit demoAt demo.unitOf position start numeral startOf all split unsigned signed bare text-lines.fields steps timeAt joined unitOf leading header1At headerAt bodyAt keptAt packAt privateAt kindAt packetAt packetsAt isBare formAt listFuel listFrom word nibble nibbles paints afterCodes align rowPixels codesIn indexMap untold tellBlock tellChain topEnd codeFrom codeAt rowAt fieldAt rowsFrom paintField decoded rowCounts fieldCounts weave lowerAt fieldsAt plainAt changeAt orderAt commandAt commandsAt blockAt blocksAt headFits chainAt controlAt spuOf entryWords bandWords rowsAt unitAt
+lines-hold = refl
+
+-- the title of 2 by 2: its cues, and its line
+small-cues : cuesIn small-text ≡ ok (small-cue ∷ [])
+unfolding small-text front rest shorn trim strip checked cuesOf cueAt durationOf firstOf lastOf partsAt text-lines.lineOf linesIn textIn digitsIn decimal shownLine refusedLine cuesLine fileLine unitFor shownFor code field fields unit found written upper evens runs cut marksOf digits nibblesOf packed pictureRows fieldNibbles allColours pictureOk sizedUnit demoAt demo.unitOf position start numeral startOf all split unsigned signed bare text-lines.fields steps timeAt joined unitOf leading header1At headerAt bodyAt keptAt packAt privateAt kindAt packetAt packetsAt isBare formAt listFuel listFrom word nibble nibbles paints afterCodes align rowPixels codesIn indexMap untold tellBlock tellChain topEnd codeFrom codeAt rowAt fieldAt rowsFrom paintField decoded rowCounts fieldCounts weave lowerAt fieldsAt plainAt changeAt orderAt commandAt commandsAt blockAt blocksAt headFits chainAt controlAt spuOf entryWords bandWords rowsAt unitAt
+small-cues = refl
+
+small-shows : shownFor (small-cue ∷ []) small-file 0 ≡ ok small-shown
+unfolding small-file front rest shorn trim strip checked cuesOf cueAt durationOf firstOf lastOf partsAt text-lines.lineOf linesIn textIn digitsIn decimal shownLine refusedLine cuesLine fileLine unitFor shownFor code field fields unit found written upper evens runs cut marksOf digits nibblesOf packed pictureRows fieldNibbles allColours pictureOk sizedUnit demoAt demo.unitOf position start numeral startOf all split unsigned signed bare text-lines.fields steps timeAt joined unitOf leading header1At headerAt bodyAt keptAt packAt privateAt kindAt packetAt packetsAt isBare formAt listFuel listFrom word nibble nibbles paints afterCodes align rowPixels codesIn indexMap untold tellBlock tellChain topEnd codeFrom codeAt rowAt fieldAt rowsFrom paintField decoded rowCounts fieldCounts weave lowerAt fieldsAt plainAt changeAt orderAt commandAt commandsAt blockAt blocksAt headFits chainAt controlAt spuOf entryWords bandWords rowsAt unitAt
+small-shows = refl
+
+small-line : (cuesLine 1 ++ shownLine 0 small-shown) ≡ small-title .want
+unfolding small-title front rest shorn trim strip checked cuesOf cueAt durationOf firstOf lastOf partsAt text-lines.lineOf linesIn textIn digitsIn decimal shownLine refusedLine cuesLine fileLine unitFor shownFor code field fields unit found written upper evens runs cut marksOf digits nibblesOf packed pictureRows fieldNibbles allColours pictureOk sizedUnit demoAt demo.unitOf position start numeral startOf all split unsigned signed bare text-lines.fields steps timeAt joined unitOf leading header1At headerAt bodyAt keptAt packAt privateAt kindAt packetAt packetsAt isBare formAt listFuel listFrom word nibble nibbles paints afterCodes align rowPixels codesIn indexMap untold tellBlock tellChain topEnd codeFrom codeAt rowAt fieldAt rowsFrom paintField decoded rowCounts fieldCounts weave lowerAt fieldsAt plainAt changeAt orderAt commandAt commandsAt blockAt blocksAt headFits chainAt controlAt spuOf entryWords bandWords rowsAt unitAt
+small-line = refl
+
+small-readable : readable true small-text small-file ≡ true
+unfolding small-text small-file
+small-readable = refl
+
+small-holds : small-title .got ≡ small-title .want
+unfolding small-title title
+small-holds = rw (small-readable, small-cues, small-shows) small-line
+
+-- its reading is a closed term that passes the grammar, and so the one that is found
+small-paints : small-painted .got ≡ small-painted .want
+unfolding small-painted cue small-text small-file wordsOf untold tellBlock tellChain
+small-paints =
+    rw (reading-iff small-text small-file (wanted 0) (lent [] (replicate 4 9) [] (replicate 16 9)) readings.small .1
+    (readings.small-passes, record { for-unit = omega arith; for-map = omega arith; for-bands = omega (arith, ap length readings.small-words); for-canvas = omega arith }))
+    (λ i. 0 ∷ shows (readings.small-shown i) ++ readings.small-canvas i)
+
+map-both : (f : Card → List ℕ) (a b : List Card) → map f (a ++ b) ≡ map f a ++ map f b
+map-both f [] b = refl
+map-both f (c ∷ a) b = ap (λ (l : List (List ℕ)). f c ∷ l) (map-both f a b)
 
 abbrev pub got : List (List ℕ)
-got = map (λ (c : Card). c .got) table
+got = gotOf table
 
 abbrev pub want : List (List ℕ)
-want = map (λ (c : Card). c .want) table
-
-computed : map (λ (c : Card). c .got) parts ≡ map (λ (c : Card). c .want) parts
-unfolding parts code field fields unit found written upper evens runs cut marksOf digits nibblesOf packed pictureRows fieldNibbles allColours pictureOk sizedUnit demoAt demo.unitOf position start numeral startOf all split unsigned signed bare lines.fields steps timeAt joined unitOf leading header1At headerAt bodyAt keptAt packAt privateAt kindAt packetAt packetsAt isBare formAt listFuel listFrom word nibble nibbles paints afterCodes align rowPixels codesIn indexMap untold tellBlock tellChain topEnd codeFrom codeAt rowAt fieldAt rowsFrom paintField decoded rowCounts fieldCounts weave lowerAt fieldsAt plainAt changeAt orderAt commandAt commandsAt blockAt blocksAt headFits chainAt controlAt spuOf entryWords bandWords rowsAt unitAt
-computed = refl
-
--- the title's reading is a closed term that passes the grammar, and so the one that is found
-whole : title .got ≡ title .want
-unfolding cue wordsOf untold tellBlock tellChain
-whole =
-    rw (reading-iff line small-file (wanted 0) (lent [] (replicate 4 9) [] (replicate 16 9)) small .1
-    (small-passes, record { for-unit = omega arith; for-map = omega arith; for-bands = omega (arith, ap length small-words); for-canvas = omega arith }))
-    (λ i. 0 ∷ shows (small-shown i) ++ small-canvas i)
+want = wantOf table
 
 pub tabled : got ≡ want
-tabled = λ i. whole i ∷ computed i
+tabled =
+    ap₂ (λ (x : List ℕ) (l : List (List ℕ)). x ∷ l) small-paints
+    (ap₂ (λ (x : List ℕ) (l : List (List ℕ)). x ∷ l) small-holds
+    (map-both (λ (c : Card). c .got) bytes lines ∙ ap₂ (λ (a b : List (List ℕ)). a ++ b) bytes-hold lines-hold ∙ sym (map-both (λ (c : Card). c .want) bytes lines)))
 
 pub each : (k : ℕ) → getD got k [] ≡ getD want k []
 each k = ap (λ (l : List (List ℕ)). getD l k []) tabled

@@ -1,13 +1,15 @@
 -- The table of cards: bytes, what the definitions make of them, and what that should be. Each layer has its part.
 -- Assumes nothing: these are definitions.
 use Prim.Native.Nat.{ℕ, _*_}
-use mathlib.Core.Bool.{cond}
+use mathlib.Core.Bool.{true, false, cond}
 use mathlib.Core.Option.{Option, some, none}
 use mathlib.Core.List.{List, [], _∷_, _++_}
 use lib.ListN.{length, replicate}
-use lib.IntN.{natAbs}
+use lib.IntN.{natAbs, pos, negsuc}
 use Rattle.outcome.specs.Outcome.{Res, ok, refuse, need, listed, bad-position}
 use Rattle.grammar.specs.IndexParts.{colon}
+use Rattle.grammar.specs.IndexCues.{Cue}
+use Rattle.grammar.specs.Reading.{Shown, shown, canvasOf}
 use Rattle.idx_numbers.specs.Numbers.{positionOf}
 use Rattle.idx_numbers.specs.Parts.{split}
 use Rattle.idx_lines.specs.Answers.{timeAt}
@@ -24,8 +26,10 @@ use Rattle.control.specs.Answers.{spuOf}
 use Rattle.control.specs.declared.Spu.{Spu}
 use Rattle.ps.specs.Packets.{formAt}
 use Rattle.spu.specs.Unit.{unitAt}
-use Rattle.grammar.specs.Reading.{Shown, shown, canvasOf}
 use Rattle.vobsub.specs.Call.{wanted, Lent, lent, readingIn}
+use Rattle.listing.specs.Lines.{refusedLine}
+use Rattle.listing.specs.Lines as line
+use Rattle.listing.specs.Title.{headLine, listedCues, cueLine}
 use Rattle.demo.specs.Codes.{lastMarks, packed}
 use Rattle.demo.specs.Unit.{topNibbles, demoAt}
 
@@ -99,8 +103,29 @@ position s = outcome (λ v. v ∷ []) (need bad-position (positionOf s))
 unfoldable pub start : List ℕ → List ℕ
 start s = outcome (λ z. natAbs z ∷ []) (timeAt (split colon 0 s))
 
+-- the digits 256204778, and one more
+abbrev pub hours : ℕ → List ℕ
+hours d = 50 ∷ 53 ∷ 54 ∷ 50 ∷ 48 ∷ 52 ∷ 55 ∷ 55 ∷ 56 ∷ d ∷ []
+
+-- the index text `timestamp: 00:00:01:000, filepos: 0`, and the unit of 2 by 2
+unfoldable pub small-text : List ℕ
+small-text = 116 ∷ 105 ∷ 109 ∷ 101 ∷ 115 ∷ 116 ∷ 97 ∷ 109 ∷ 112 ∷ 58 ∷ 32 ∷ 48 ∷ 48 ∷ 58 ∷ 48 ∷ 48 ∷ 58 ∷ 48 ∷ 49 ∷ 58 ∷ 48 ∷ 48 ∷ 48 ∷ 44 ∷ 32 ∷ 102 ∷ 105 ∷ 108 ∷ 101 ∷ 112 ∷ 111 ∷ 115 ∷ 58 ∷ 32 ∷ 48 ∷ []
+
+unfoldable pub small-file : List ℕ
+small-file =
+    0x00 ∷ 0x21 ∷ 0x00 ∷ 0x09 ∷ 0x00 ∷ 0x01 ∷ 0x60 ∷ 0x00 ∷ 0x30 ∷ 0x00 ∷ 0x00 ∷ 0x00 ∷ 0x09 ∷ 0x03 ∷ 0x01 ∷ 0x32 ∷ 0x04 ∷ 0x0F ∷ 0xFF ∷ 0x05 ∷ 0x00 ∷ 0x00 ∷ 0x01 ∷ 0x00 ∷ 0x00
+    ∷ 0x01 ∷ 0x06 ∷ 0x00 ∷ 0x04 ∷ 0x00 ∷ 0x06 ∷ 0x01 ∷ 0xFF ∷ []
+
+-- its one cue
+abbrev pub small-cue : Cue
+small-cue = record { start = pos 1000000; position = 0 }
+
+-- and what is shown of it
+abbrev pub small-shown : Shown
+small-shown = record { start = pos 1000000; duration = none; start-delay = 0; stop-delay = 0; x1 = 0; y1 = 0; width = 2; height = 2; codes = 3 }
+
 -- the first cue of a text and a file, with so much of each buffer lent: start, whether it lasts and how long, both delays, origin, size, the number
--- of codes, and the canvas
+-- of codes, and the canvas (FORMAT 6)
 abbrev lasting : Option ℕ → List ℕ
 lasting none = 0 ∷ []
 lasting (some d) = 1 ∷ d ∷ []
@@ -111,30 +136,12 @@ shows s = natAbs (s .start) ∷ lasting (s .duration) ++ s .start-delay ∷ s .s
 unfoldable pub cue : List ℕ → List ℕ → Lent → List ℕ
 cue text file b = outcome (λ r. shows (shown r) ++ canvasOf r) (readingIn text file (wanted 0) b)
 
--- `timestamp: 00:00:01:000, filepos: 0`
-abbrev stamp : List ℕ
-stamp =
-    116 ∷ 105 ∷ 109 ∷ 101 ∷ 115 ∷ 116 ∷ 97 ∷ 109 ∷ 112 ∷ 58 ∷ 32 ∷ 48 ∷ 48 ∷ 58 ∷ 48 ∷ 48 ∷ 58 ∷ 48 ∷ 49 ∷ 58 ∷ 48 ∷ 48 ∷ 48 ∷ 44 ∷ 32 ∷ 102 ∷ 105 ∷ 108 ∷ 101 ∷ 112 ∷ 111 ∷ 115 ∷ 58
-    ∷ 32 ∷ 48 ∷ []
+-- the first line of the title with this index text and this file, and the line of its cue 0
+unfoldable pub title : List ℕ → List ℕ → List ℕ
+title text file = headLine true text file ++ cueLine (listedCues true text file) file 0
 
--- 2 by 2, 1 1 2 3
-abbrev two-by-two : List ℕ
-two-by-two =
-    0x00 ∷ 0x21 ∷ 0x00 ∷ 0x09 ∷ 0x00 ∷ 0x01 ∷ 0x60 ∷ 0x00 ∷ 0x30 ∷ 0x00 ∷ 0x00 ∷ 0x00 ∷ 0x09 ∷ 0x03 ∷ 0x01 ∷ 0x32 ∷ 0x04 ∷ 0x0F ∷ 0xFF ∷ 0x05 ∷ 0x00 ∷ 0x00 ∷ 0x01 ∷ 0x00 ∷ 0x00
-    ∷ 0x01 ∷ 0x06 ∷ 0x00 ∷ 0x04 ∷ 0x00 ∷ 0x06 ∷ 0x01 ∷ 0xFF ∷ []
-
--- the digits 256204778, and one more
-abbrev pub hours : ℕ → List ℕ
-hours d = 50 ∷ 53 ∷ 54 ∷ 50 ∷ 48 ∷ 52 ∷ 55 ∷ 55 ∷ 56 ∷ d ∷ []
-
--- a whole title, with exactly what it needs of each buffer (FORMAT 6)
-abbrev pub title : Card
-title =
-    card (cue stamp two-by-two (lent [] (replicate 4 9) [] (replicate 16 9)))
-    (0 ∷ 1000000 ∷ 0 ∷ 0 ∷ 0 ∷ 0 ∷ 0 ∷ 2 ∷ 2 ∷ 3 ∷ 0 ∷ 0 ∷ 0 ∷ 255 ∷ 0 ∷ 0 ∷ 0 ∷ 255 ∷ 0 ∷ 0 ∷ 0 ∷ 255 ∷ 0 ∷ 0 ∷ 0 ∷ 255 ∷ [])
-
-unfoldable pub parts : List Card
-parts =
+unfoldable pub bytes : List Card
+bytes =
     -- each length of code at its least and its greatest run, and a fill (FORMAT 5.2 to 5.4)
     card (code (0xF0 ∷ [])) (0 ∷ 1 ∷ 3 ∷ 3 ∷ [])
     ∷ card (code (0x10 ∷ [])) (0 ∷ 2 ∷ 4 ∷ 0 ∷ [])
@@ -158,7 +165,11 @@ parts =
     ∷ card (unit (0x00 ∷ 0x04 ∷ 0x00 ∷ 0x05 ∷ [])) (16 ∷ [])
     ∷ card (unit []) (15 ∷ [])
     -- 2 by 2, 1 1 2 3, as a whole unit: selectors 0 1 3 2, alphas 0 F F F
-    ∷ card (unit two-by-two) (0 ∷ 2 ∷ 2 ∷ 0x0132 ∷ 0x0FFF ∷ 0 ∷ 0 ∷ 3 ∷ 1 ∷ 1 ∷ 2 ∷ 3 ∷ [])
+    ∷ card
+    (unit
+    (0x00 ∷ 0x21 ∷ 0x00 ∷ 0x09 ∷ 0x00 ∷ 0x01 ∷ 0x60 ∷ 0x00 ∷ 0x30 ∷ 0x00 ∷ 0x00 ∷ 0x00 ∷ 0x09 ∷ 0x03 ∷ 0x01 ∷ 0x32 ∷ 0x04 ∷ 0x0F ∷ 0xFF ∷ 0x05 ∷ 0x00 ∷ 0x00 ∷ 0x01 ∷ 0x00 ∷ 0x00
+    ∷ 0x01 ∷ 0x06 ∷ 0x00 ∷ 0x04 ∷ 0x00 ∷ 0x06 ∷ 0x01 ∷ 0xFF ∷ []))
+    (0 ∷ 2 ∷ 2 ∷ 0x0132 ∷ 0x0FFF ∷ 0 ∷ 0 ∷ 3 ∷ 1 ∷ 1 ∷ 2 ∷ 3 ∷ [])
     -- a unit bare; one kept by a packet; a packet that keeps two bytes 0, and so an empty unit; no packet, and no file
     ∷ card (found (0x00 ∷ 0x04 ∷ 0x00 ∷ 0x04 ∷ [])) (0 ∷ 0x00 ∷ 0x04 ∷ 0x00 ∷ 0x04 ∷ [])
     ∷ card (found (0x00 ∷ 0x00 ∷ 0x01 ∷ 0xBD ∷ 0x00 ∷ 0x08 ∷ 0x80 ∷ 0x00 ∷ 0x00 ∷ 0x20 ∷ 0x00 ∷ 0x04 ∷ 0x00 ∷ 0x04 ∷ [])) (0 ∷ 0x00 ∷ 0x04 ∷ 0x00 ∷ 0x04 ∷ [])
@@ -174,12 +185,32 @@ parts =
     ∷ card (start (hours 56)) (0 ∷ 9223372036800000000 ∷ [])
     ∷ card (start (hours 57)) (8 ∷ [])
     -- a written unit; a run of 64 before the row's end, and the fill at it; a side of 0, an index too few, an index of 4
-    ∷ card (written 2 2 (1 ∷ 1 ∷ 2 ∷ 3 ∷ [])) (0 ∷ two-by-two)
+    ∷ card (written 2 2 (1 ∷ 1 ∷ 2 ∷ 3 ∷ [])) (0 ∷ 0x00 ∷ 0x21 ∷ 0x00 ∷ 0x09 ∷ 0x00 ∷ 0x01 ∷ 0x60 ∷ 0x00 ∷ 0x30 ∷ 0x00 ∷ 0x00 ∷ 0x00 ∷ 0x09 ∷ 0x03 ∷ 0x01 ∷ 0x32 ∷ 0x04 ∷ 0x0F ∷ 0xFF ∷ 0x05 ∷ 0x00 ∷ 0x00 ∷ 0x01 ∷ 0x00 ∷ 0x00 ∷ 0x01 ∷ 0x06 ∷ 0x00 ∷ 0x04 ∷ 0x00 ∷ 0x06 ∷ 0x01 ∷ 0xFF ∷ [])
     ∷ card (upper 65 1 (replicate 64 1 ++ (2 ∷ []))) (0x01 ∷ 0x01 ∷ 0x00 ∷ 0x02 ∷ [])
     ∷ card (written 0 1 []) (27 ∷ [])
     ∷ card (written 2 1 (0 ∷ [])) (28 ∷ [])
     ∷ card (written 1 1 (4 ∷ [])) (29 ∷ [])
     ∷ []
 
+unfoldable pub lines : List Card
+lines =
+    -- a start below 0; the least start; a refused cue, and no file (FORMAT 8)
+    card (line.signed (negsuc 0)) (45 ∷ 49 ∷ [])
+    ∷ card (line.signed (negsuc 9223372036854775807)) (45 ∷ 57 ∷ 50 ∷ 50 ∷ 51 ∷ 51 ∷ 55 ∷ 50 ∷ 48 ∷ 51 ∷ 54 ∷ 56 ∷ 53 ∷ 52 ∷ 55 ∷ 55 ∷ 53 ∷ 56 ∷ 48 ∷ 56 ∷ [])
+    ∷ card (refusedLine 10 26) (49 ∷ 48 ∷ 32 ∷ 114 ∷ 101 ∷ 102 ∷ 117 ∷ 115 ∷ 101 ∷ 100 ∷ 32 ∷ 50 ∷ 54 ∷ 10 ∷ [])
+    ∷ card (headLine false [] []) (102 ∷ 105 ∷ 108 ∷ 101 ∷ 32 ∷ 114 ∷ 101 ∷ 102 ∷ 117 ∷ 115 ∷ 101 ∷ 100 ∷ 10 ∷ [])
+    ∷ []
+
+-- the title of the picture of 2 by 2: `cues 1` and `0 1000000 - 0 0 2 2 0 0 3`
+unfoldable pub small-title : Card
+small-title = card (title small-text small-file) (99 ∷ 117 ∷ 101 ∷ 115 ∷ 32 ∷ 49 ∷ 10 ∷ 48 ∷ 32 ∷ 49 ∷ 48 ∷ 48 ∷ 48 ∷ 48 ∷ 48 ∷ 48 ∷ 32 ∷ 45 ∷ 32 ∷ 48 ∷ 32 ∷ 48 ∷ 32 ∷ 50 ∷ 32 ∷ 50 ∷ 32 ∷ 48 ∷ 32 ∷ 48 ∷ 32 ∷ 51 ∷ 10 ∷ [])
+
+-- and its canvas, with exactly what it needs of each buffer
+unfoldable pub small-painted : Card
+small-painted =
+    card (cue small-text small-file (lent [] (replicate 4 9) [] (replicate 16 9)))
+    (0 ∷ 1000000 ∷ 0 ∷ 0 ∷ 0 ∷ 0 ∷ 0 ∷ 2 ∷ 2 ∷ 3 ∷ 0 ∷ 0 ∷ 0 ∷ 255 ∷ 0 ∷ 0 ∷ 0 ∷ 255 ∷ 0 ∷ 0 ∷ 0 ∷ 255 ∷ 0 ∷ 0 ∷ 0 ∷ 255 ∷ [])
+
+-- all of them
 abbrev pub table : List Card
-table = title ∷ parts
+table = small-painted ∷ small-title ∷ bytes ++ lines

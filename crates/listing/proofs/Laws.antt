@@ -4,7 +4,7 @@ use native.Mathlib.Omega.{arith}
 use native.Mathlib.Numerals.{add-one}
 use native.Mathlib.Nat.{pow-succ'}
 use mathlib.Core.Path.{_≡_, refl, sym, ap, _∙_, subst}
-use mathlib.Core.Bool.{Bool, true, false, cond}
+use mathlib.Core.Bool.{Bool, true, false}
 use mathlib.Core.List.{List, [], _∷_, _++_}
 use lib.Dec.{ltb}
 use lib.ListN.{length, set, take, length-append}
@@ -17,16 +17,14 @@ use Rattle.listing.specs.Answers.{Put, Written}
 -- ---- Digits
 
 -- more steps than n change nothing
-steps : (j k n : ℕ) → n < j → n < k → digitsIn j n ≡ digitsIn k n
+steps : (j k : ℕ) (t : Bool) (n : ℕ) → n < j → n < k → ltb n 10 ≡ t → digitsIn j t n ≡ digitsIn k t n
 unfolding digitsIn
-steps zero k n h i = absurd (omega arith)
-steps (suc j) zero n h i = absurd (omega arith)
-steps (suc j) (suc k) n h i = go (λ l. steps j k (n / 10) (omega arith) (omega arith)) (ltb n 10) refl
-  where
-    go : (10 ≤ n → digitsIn j (n / 10) ≡ digitsIn k (n / 10)) → (t : Bool) → ltb n 10 ≡ t
-        → cond t ((48 + n) ∷ []) (digitsIn j (n / 10) ++ ((48 + n % 10) ∷ [])) ≡ cond t ((48 + n) ∷ []) (digitsIn k (n / 10) ++ ((48 + n % 10) ∷ []))
-    go ih true e = refl
-    go ih false e = ap (λ (s : List ℕ). s ++ ((48 + n % 10) ∷ [])) (ih (ltb-false n 10 e))
+steps zero k t n h i e = absurd (omega arith)
+steps (suc j) zero t n h i e = absurd (omega arith)
+steps (suc j) (suc k) true n h i e = refl
+steps (suc j) (suc k) false n h i e =
+    let l = ltb-false n 10 e in
+    ap (λ (s : List ℕ). s ++ ((48 + n % 10) ∷ [])) (steps j k (ltb (n / 10) 10) (n / 10) (omega arith) (omega arith) refl)
 
 pub decimal-one : (n : ℕ) → n < 10 → decimal n ≡ (48 + n) ∷ []
 unfolding decimal digitsIn
@@ -34,7 +32,9 @@ decimal-one n h = rw (lt-ltb n 10 h)
 
 pub decimal-more : (n : ℕ) → 10 ≤ n → decimal n ≡ decimal (n / 10) ++ ((48 + n % 10) ∷ [])
 unfolding decimal digitsIn
-decimal-more n h = rw (le-ltb n 10 h) (ap (λ (s : List ℕ). s ++ ((48 + n % 10) ∷ [])) (steps n (suc (n / 10)) (n / 10) (omega arith) (omega arith)))
+decimal-more n h =
+    rw (le-ltb n 10 h)
+    (ap (λ (s : List ℕ). s ++ ((48 + n % 10) ∷ [])) (steps n (suc (n / 10)) (ltb (n / 10) 10) (n / 10) (omega arith) (omega arith) refl))
 
 pub length-one : (n : ℕ) → n < 10 → length (decimal n) ≡ 1
 length-one n h = rw (decimal-one n h)

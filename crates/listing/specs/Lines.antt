@@ -1,6 +1,6 @@
 -- The bytes of the list program's lines (FORMAT 8). Assumes nothing: these are definitions.
 use Prim.Native.Nat.{ℕ, zero, suc, _+_, _/_, _%_}
-use mathlib.Core.Bool.{cond}
+use mathlib.Core.Bool.{Bool, true, false}
 use mathlib.Core.Option.{Option, some, none}
 use mathlib.Core.List.{List, [], _∷_, _++_}
 use lib.Dec.{ltb}
@@ -9,14 +9,15 @@ use Rattle.grammar.specs.Reading.{Shown}
 
 -- ---- Numbers
 
--- the digits of n, the first of them not 0 but in 0 itself; k only bounds how many
-unfoldable pub digitsIn : ℕ → ℕ → List ℕ
-digitsIn zero n = []
-digitsIn (suc k) n = cond (ltb n 10) ((48 + n) ∷ []) (digitsIn k (n / 10) ++ ((48 + n % 10) ∷ []))
+-- the digits of n, of which t says whether it is below 10; k only bounds how many there are
+unfoldable pub digitsIn : ℕ → Bool → ℕ → List ℕ
+digitsIn zero t n = []
+digitsIn (suc k) true n = (48 + n) ∷ []
+digitsIn (suc k) false n = digitsIn k (ltb (n / 10) 10) (n / 10) ++ ((48 + n % 10) ∷ [])
 
--- n has at most n + 1 of them
+-- n has at most n + 1 of them; the first is not 0 but in 0 itself
 unfoldable pub decimal : ℕ → List ℕ
-decimal n = digitsIn (suc n) n
+decimal n = digitsIn (suc n) (ltb n 10) n
 
 -- with `-` in front below 0
 abbrev pub signed : ℤ → List ℕ
