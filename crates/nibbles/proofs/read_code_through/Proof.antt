@@ -1,0 +1,149 @@
+-- `nibbles::read_code_through` meets its contract, by the laws of `codes` for one turn of the loop. Assumes nothing.
+use Prim.Native.Nat.{ℕ, _+_, _*_, _-_, _^_, _≤_, _<_}
+use mathlib.Core.Path.{_≡_, refl, sym, ap, _∙_}
+use mathlib.Core.List.{List}
+use native.Mathlib.Omega.{arith}
+use borrow.Author.Needs.{needs}
+use lib.ListN.{length}
+use denote.Ref.{now}
+use Rattle.outcome.specs.Outcome.{ok}
+use Rattle.grammar.specs.Bytes.{nibble, nibbles}
+use Rattle.codes.specs.declared.CodeAnswer.the-variants.{Got}
+use Rattle.codes.specs.Codes.{codeFrom, codeAt, made}
+use Rattle.codes.specs.Answers.{codeAnswer}
+use Rattle.codes.proofs.Laws.{nibble-lt}
+use Rattle.codes.proofs.Turns.{nibbles-step, pow-step, pow-most, code-short, code-hit, code-last, code-next}
+use Rattle.nibbles.proofs.Laws.{is-nibble, ran-out}
+use Rattle.nibbles.proofs.read_code_through.Statement.{statement}
+use Rattle.nibbles.proofs.read_code_through.Tie as tie
+
+-- what is known with the first `size` nibbles read
+pub record Inv (field : List ℕ) (pos value size least : ℕ) : Type 0 where
+  pub few : size ≤ 3
+  pub fits : pos + size < 2 ^ 64
+  pub number : value ≡ nibbles field pos size
+  pub power : least ≡ 4 ^ size
+  pub small : value < least
+  pub goes : codeFrom field (length field) pos (4 - (size + 1)) (size + 1) ≡ codeAt field (length field) pos
+
+got : (f : List ℕ) (at k v : ℕ) → codeFrom f (length f) at (4 - k) k ≡ codeAt f (length f) at → codeFrom f (length f) at (4 - k) k ≡ ok (made f at k)
+    → v ≡ nibbles f at k → Got k v (record { pos = at + k }) ≡ codeAnswer (codeAt f (length f) at)
+got f at k v a b e = ap (λ (x : ℕ). Got k x (record { pos = at + k })) e ∙ ap codeAnswer (sym b ∙ a)
+
+abbrev Inv-loop : tie.InvT-loop
+Inv-loop field pos value₀ size₀ least₀ value size least = Inv field pos value size least
+
+abbrev μ-loop : tie.MeasureT-loop
+μ-loop field pos value₀ size₀ least₀ value size least = 4 - size
+
+loop-holds : tie.Need-loop-holds Inv-loop μ-loop
+unfolding codeAt nibbles
+loop-holds c = record { few = omega arith; fits = search needs; number = refl; power = refl; small = omega arith; goes = refl }
+
+add-read-through : tie.Need-add-read-through Inv-loop μ-loop
+add-read-through c = record { fits = c .before .loop .inv .fits }
+
+read-through-requires : tie.Need-read-through-requires Inv-loop μ-loop
+read-through-requires c κs = search needs
+
+enum-told : tie.Need-enum-told Inv-loop μ-loop
+enum-told c = search needs
+
+returns : tie.Need-returns Inv-loop μ-loop
+returns c =
+    let i = c .before .before .before .before .loop in
+    let a = c .before .before .before .before .before .before .args in
+    let o = ran-out (now (a .field)) (a .pos + i .size) (sym (c .enum-told .given .1) ∙ c .before .before .read-through .ensures) in
+    ap codeAnswer (sym (code-short _ _ _ _ (omega (arith, o))) ∙ i .inv .goes)
+
+enum-known-n : tie.Need-enum-known-n Inv-loop μ-loop
+enum-known-n c = search needs
+
+abbrev turn : tie.After-known-told Inv-loop μ-loop → tie.At-loop Inv-loop μ-loop
+turn c = c .before .before .before .before .before
+
+abbrev start : tie.After-known-told Inv-loop μ-loop → tie.Start Inv-loop μ-loop
+start c = turn c .before .before
+
+-- the nibble that was read is inside the field, and the field's
+read : (c : tie.After-known-told Inv-loop μ-loop)
+    → (start c .args .pos + turn c .loop .size < 2 * length (now (start c .args .field)))
+    × (c .before .n .given .0 .0 ≡ nibble (now (start c .args .field)) (start c .args .pos + turn c .loop .size))
+read c = is-nibble _ _ _ (sym (c .before .n .given .1) ∙ c .before .before .before .read-through .ensures)
+
+mul-value : tie.Need-mul-value Inv-loop μ-loop
+mul-value c = omega (arith, pow-most (turn c .loop .size) (turn c .loop .inv .few))
+
+cast-value : tie.Need-cast-value Inv-loop μ-loop
+cast-value c = omega (arith, read c .1, nibble-lt (now (start c .args .field)) (start c .args .pos + turn c .loop .size))
+
+add-value : tie.Need-add-value Inv-loop μ-loop
+add-value c = omega (arith, pow-most (turn c .loop .size) (turn c .loop .inv .few), read c .1, nibble-lt (now (start c .args .field)) (start c .args .pos + turn c .loop .size))
+
+add-size : tie.Need-add-size Inv-loop μ-loop
+add-size c = omega arith
+
+mul-least : tie.Need-mul-least Inv-loop μ-loop
+mul-least c = omega (arith, pow-most (turn c .loop .size) (turn c .loop .inv .few))
+
+add-end : tie.Need-add-end Inv-loop μ-loop
+add-end c = omega (arith, read c .0)
+
+returns-2 : tie.Need-returns-2 Inv-loop μ-loop
+returns-2 c =
+    let t = c .before in
+    let i = turn t .loop in
+    let n = nibbles-step (now (start t .args .field)) (start t .args .pos) (i .size) in
+    got _ _ _ _ (i .inv .goes) (code-hit _ _ _ _ (omega (arith, read t .0)) (omega (arith, n, pow-step (i .size), read t .1))) (omega (arith, n, read t .1))
+
+returns-3 : tie.Need-returns-3 Inv-loop μ-loop
+returns-3 c =
+    let t = c .before .before in
+    let i = turn t .loop in
+    let n = nibbles-step (now (start t .args .field)) (start t .args .pos) (i .size) in
+    got _ _ _ _ (i .inv .goes) (code-last _ _ _ _ (c .if2 .taken) (omega (arith, read t .0))) (omega (arith, n, read t .1))
+
+loop-less : tie.Need-loop-less Inv-loop μ-loop
+loop-less c = omega arith
+
+loop-again : tie.Need-loop-again Inv-loop μ-loop
+loop-again c =
+    let t = c .before .before in
+    let i = turn t .loop in
+    let n = nibbles-step (now (start t .args .field)) (start t .args .pos) (i .size) in
+    let q = pow-step (i .size) in
+    record {
+      few = omega arith;
+      fits = omega (arith, read t .0);
+      number = omega (arith, n, read t .1);
+      power = omega (arith, q);
+      small = omega arith;
+      goes = sym (code-next _ _ _ _ (omega arith) (omega (arith, read t .0)) (omega (arith, n, q, read t .1))) ∙ i .inv .goes;
+    }
+
+returns-4 : tie.Need-returns-4 Inv-loop μ-loop
+returns-4 c = absurd (omega (arith, c .before .loop .inv .few))
+
+pub read-code-through-spec : {M : Type 1} → statement M
+read-code-through-spec =
+    tie.close
+    (tie.spec
+    Inv-loop
+    μ-loop
+    loop-holds
+    add-read-through
+    read-through-requires
+    enum-told
+    returns
+    enum-known-n
+    mul-value
+    cast-value
+    add-value
+    add-size
+    mul-least
+    add-end
+    returns-2
+    returns-3
+    loop-less
+    loop-again
+    returns-4)
