@@ -21,8 +21,11 @@ use Rattle.idx.specs.declared.IdxAnswer.{IdxAnswer}
 use Rattle.idx.proofs.Picks.{cue-out, last-duration, next-duration, text-open}
 use Rattle.idx.proofs.Grammar.{room-iff}
 use Rattle.idx.proofs.Claim.{text-refuses}
+use Rattle.grammar.specs.Packets.{subpicture}
+use Rattle.ps.specs.Packets.{formAt}
+use Rattle.ps.specs.Answers.{unitStored}
 use Rattle.listing.specs.Lines.{refusedLine, cuesLine, indexLine, fileLine}
-use Rattle.listing.specs.Title.{shownAt, unitFor, shownFor, lineOf, cueLine, readable, indexed, cuesIn, headLine, listedCues}
+use Rattle.listing.specs.Title.{shownAt, unitFor, formFor, shownFor, lineOf, cueLine, readable, indexed, cuesIn, headLine, listedCues}
 use Rattle.listing.specs.Answers.{Put, Written, positionLine, tableOf, Headed}
 use Rattle.listing.specs.declared.Head.{Head}
 use Rattle.listing.proofs.Laws.{put-as, written}
@@ -51,6 +54,15 @@ module _ (zs : List ℤ) (ps : List ℕ) (k : ℕ) (f : List ℕ) (n size : ℕ)
   pub line-none : size ≤ n → refusedLine n no-cue ≡ cueLine (tableOf zs ps k) f n
   unfolding shownFor
   line-none h = rw (cue-out (tableOf zs ps k) n (omega (arith, table-length zs ps k)))
+
+  -- and what is left in scratch
+  pub form-none : size ≤ n → (s : List ℕ) → s ≡ sets s 0 (unitStored (formFor (tableOf zs ps k) f n))
+  unfolding formFor
+  form-none h s = rw (cue-out (tableOf zs ps k) n (omega (arith, table-length zs ps k)))
+
+  pub form-some : n < size → (s s′ : List ℕ) → s′ ≡ sets s 0 (unitStored (formAt subpicture f (getD ps n 0))) → s′ ≡ sets s 0 (unitStored (formFor (tableOf zs ps k) f n))
+  unfolding formFor
+  form-some h s s′ e = rw (table-at zs ps k n (omega (arith, table-length zs ps k))) e
 
   line-some : (o : Option ℕ) → n < size → durationOf (tableOf zs ps k) n ≡ o → positionLine n (getD zs n (pos 0)) o f (getD ps n 0) ≡ cueLine (tableOf zs ps k) f n
   unfolding shownFor
@@ -102,6 +114,8 @@ module _ (there : Bool) (text file l : List ℕ) where
         line = rw e (written (omega arith) (p .0));
         count = rw e (p .1);
         table = rw (e, p .1);
+        starts-are = rw e;
+        positions-are = rw e;
         starts-long = refl;
         positions-long = refl;
       }
@@ -119,7 +133,7 @@ module _ (there : Bool) (text file l : List ℕ) where
 
     -- the index is refused
     pub head-refused : (a .refused ≡ 0 → ⊥) → (r : Head) (l′ : List ℕ) → (Put 210 l 0 (indexLine (a .refused)) (r .size) l′) × (r .cues ≡ 0) → Headed there text file zs ps l r zs′ ps′ l′
-    unfolding idxAnswer tableOf
+    unfolding idxAnswer tableOf cuesOf
     head-refused h r l′ p = go (textOf text) refl (d .answer ∙ ap idxAnswer opened)
       where
         go : (x : Res (List Said)) → textOf text ≡ x → a ≡ idxAnswer (textOf text) → Headed there text file zs ps l r zs′ ps′ l′
@@ -130,6 +144,8 @@ module _ (there : Bool) (text file l : List ℕ) where
               line = rw (e, q) (written (omega arith) (put-as (ap indexLine w) (p .0)));
               count = rw (e, q) (p .1);
               table = rw (e, q, p .1);
+              starts-are = rw (e, q) (d .stored .starts-are ∙ ap (λ (y : Res (List Said)). sets zs 0 (startsOf (listed y))) (opened ∙ q));
+              positions-are = rw (e, q) (d .stored .positions-are ∙ ap (λ (y : Res (List Said)). sets ps 0 (positionsOf (listed y))) (opened ∙ q));
               starts-long = kept-starts;
               positions-long = kept-positions;
             }
@@ -153,6 +169,8 @@ module _ (there : Bool) (text file l : List ℕ) where
               line = rw (e, q) (written (omega arith) (put-as (ap cuesLine w) (p .0)));
               count = rw (e, q) (p .1 ∙ w);
               table = rw (e, q, p .1, w, s, t) (table-stored (cuesOf ls) zs ps (omega arith) (omega arith));
+              starts-are = rw (e, q) s;
+              positions-are = rw (e, q) t;
               starts-long = kept-starts;
               positions-long = kept-positions;
             }

@@ -203,6 +203,11 @@ module _ (f : List ℕ) (bytes : (i : ℕ) → Fits w8 (byte f i)) (p : ℕ) (s 
       go (ok (packets ps)) e g = absurd (let w : _≡_ {A = ℕ} 0 1 = cc in omega arith)
       go (refuse j) e g = let w : k ≡ j = cc in rw e (ap refuse w)
 
+-- what is left in scratch
+pub scratch-kept : (f : List ℕ) (bytes : (i : ℕ) → Fits w8 (byte f i)) (p : ℕ) (s s′ : List ℕ) (r : UnitAnswer) → length s ≡ 65536 → Extracted f p s r s′
+    → s′ ≡ sets s 0 (unitStored (formAt subpicture f p))
+scratch-kept f bytes p s s′ r long d = d .scratch ∙ ap (λ (x : Res Form). sets s 0 (unitStored x)) (open-form f bytes p s s′ long r d)
+
 pub found-line : (n : ℕ) (z : ℤ) (o : Option ℕ) (y : ℤ) (e : y ≡ z) {l l′ : List ℕ} {k : ℕ} (v : ℕ) (f : List ℕ) (bytes : (i : ℕ) → Fits w8 (byte f i)) (p : ℕ) (s s′ : List ℕ) (r : UnitAnswer) → length s ≡ 65536
     → Extracted f p s r s′ → ((j : ℕ) → r ≡ unit-answer.Refused j → ⊥) → Put k l 0 (unitLine n y o (unitPart f s′ p r)) v l′ → Put k l 0 (positionLine n z o f p) v l′
 found-line n z o y e v f bytes p s s′ r long d h q =

@@ -4,7 +4,7 @@ use mathlib.Core.Path.{_≡_}
 use mathlib.Core.Bool.{Bool, true, false}
 use mathlib.Core.Option.{Option, some, none}
 use mathlib.Core.Logic.{_↔_}
-use mathlib.Core.List.{List, [], _∷_}
+use mathlib.Core.List.{List, [], _∷_, map}
 use lib.IntN.{ℤ}
 use lib.ListN.{length}
 use lib.Seq.{sets}
@@ -78,10 +78,12 @@ pub record Exactly (cs : List Cue) (f : List ℕ) (n : ℕ) (l l′ : List ℕ) 
   pub exactly-when : (text : List ℕ) (ls : List Said) → IsText text ls → cuesOf ls ≡ cs → IsOk (shownFor cs f n) ↔ ((x : Reading) × IsReading text f (wanted n) x)
   pub same : (text : List ℕ) (x : Reading) → cuesOf (x .lines) ≡ cs → IsReading text f (wanted n) x → l′ ≡ sets l 0 (shownLine n (shown x))
 
--- ---- The first line of a title: its length, the number of cues, and the table that they are in; the buffers keep their lengths
+-- ---- The first line of a title: its length, the number of cues, the table that they are in, and what the buffers hold
 pub record Headed (there : Bool) (text file : List ℕ) (starts : List ℤ) (positions l : List ℕ) (r : Head) (starts′ : List ℤ) (positions′ l′ : List ℕ) : Type 0 where
   pub line : Written (headLine there text file) l (r .size) l′
   pub count : r .cues ≡ length (listedCues there text file)
   pub table : tableOf starts′ positions′ (r .cues) ≡ listedCues there text file
+  pub starts-are : starts′ ≡ sets starts 0 (map (λ (c : Cue). c .start) (listedCues there text file))
+  pub positions-are : positions′ ≡ sets positions 0 (map (λ (c : Cue). c .position) (listedCues there text file))
   pub starts-long : length starts′ ≡ length starts
   pub positions-long : length positions′ ≡ length positions

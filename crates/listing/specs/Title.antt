@@ -9,7 +9,7 @@ use lib.IntN.{ℤ}
 use lib.ListN.{length}
 use Rattle.outcome.specs.Outcome.{Res, ok, refuse, need, andThen, mapRes, listed, no-cue}
 use Rattle.grammar.specs.IndexCues.{Cue, cuesOf, cueAt, durationOf}
-use Rattle.grammar.specs.Packets.{unitOf, subpicture}
+use Rattle.grammar.specs.Packets.{Form, unitOf, subpicture}
 use Rattle.grammar.specs.Record.{told, delayOf, width, height}
 use Rattle.grammar.specs.Picture.{ListedUnit}
 use Rattle.grammar.specs.Pixels.{codesIn}
@@ -39,6 +39,10 @@ shownAt start duration l =
 -- the unit at a cue's position: 12, 13, then 15 to 21, 25 and 26
 unfoldable pub unitFor : List ℕ → ℕ → Res ListedUnit
 unitFor f p = andThen (formAt subpicture f p) (λ m. unitAt (unitOf m))
+
+-- how the unit of cue n of the cues cs stands in the file: 11, 12 or 13
+unfoldable pub formFor : List Cue → List ℕ → ℕ → Res Form
+formFor cs f n = andThen (need no-cue (cueAt cs n)) (λ c. formAt subpicture f (c .position))
 
 -- what is shown of cue n of the cues cs
 unfoldable pub shownFor : List Cue → List ℕ → ℕ → Res Shown

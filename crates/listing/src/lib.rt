@@ -8,9 +8,12 @@ ghost use mathlib.Core.Path.{_≡_};
 ghost use mathlib.Core.List.{[], _∷_};
 ghost use Prim.Native.Nat.{_+_, _≤_, _<_};
 ghost use lib.ListN.{length};
-ghost use Rattle.ps.specs.Answers.{unitPart};
+ghost use lib.Seq.{sets};
+ghost use Rattle.grammar.specs.Packets.{subpicture};
+ghost use Rattle.ps.specs.Packets.{formAt};
+ghost use Rattle.ps.specs.Answers.{unitPart, unitStored};
 ghost use Rattle.listing.specs.Lines.{decimal, signed, lasting, field, newline, times, area, delays, shownLine, refusedLine, cuesLine, indexLine, fileLine};
-ghost use Rattle.listing.specs.Title.{cueLine};
+ghost use Rattle.listing.specs.Title.{formFor, cueLine};
 ghost use Rattle.listing.specs.Answers.{Put, Written, durationIs, recordShown, unitLine, positionLine, tableOf, Exactly, Headed};
 
 // The longest file that is read.
@@ -228,7 +231,8 @@ fn put_cue(
     scratch: &mut [u8; 65536],
     line: &mut [u8; 256],
 ) -> usize
-    ensures { λ r. ⌜ Put 210 (now (line .entry)) 0 (positionLine n start (durationIs lasts duration) (now (file .entry)) position) r (now (line .exit)) ⌝ }
+    ensures { λ r. ⌜ (Put 210 (now (line .entry)) 0 (positionLine n start (durationIs lasts duration) (now (file .entry)) position) r (now (line .exit)))
+        × (now (scratch .exit) ≡ sets (now (scratch .entry)) 0 (unitStored (formAt subpicture (now (file .entry)) position))) ⌝ }
 {
     match ps::extract_spu(file, position as usize, scratch) {
         UnitAnswer::Bare(k) => put_found(
@@ -257,7 +261,8 @@ fn put_cue(
     }
 }
 
-// The line of cue n, of the first `cues` that the two buffers hold, and its length.
+// The line of cue n, of the first `cues` that the two buffers hold, and its length. A unit that packets hold is joined in the front of
+// scratch.
 // Ruled out: a cue's line with the times of another; a line that is refused where the files have a reading for the cue.
 pub fn cue_line(
     file: &[u8],
@@ -269,7 +274,8 @@ pub fn cue_line(
     line: &mut [u8; 256],
 ) -> usize
     ensures { λ r. ⌜ Written (cueLine (tableOf (now (starts .entry)) (now (positions .entry)) cues) (now (file .entry)) n) (now (line .entry)) r (now (line .exit))
-        × Exactly (tableOf (now (starts .entry)) (now (positions .entry)) cues) (now (file .entry)) n (now (line .entry)) (now (line .exit)) ⌝ }
+        × Exactly (tableOf (now (starts .entry)) (now (positions .entry)) cues) (now (file .entry)) n (now (line .entry)) (now (line .exit))
+        × (now (scratch .exit) ≡ sets (now (scratch .entry)) 0 (unitStored (formFor (tableOf (now (starts .entry)) (now (positions .entry)) cues) (now (file .entry)) n))) ⌝ }
 {
     let size = lesser(cues, lesser(starts.len(), positions.len()));
     if size <= n {
