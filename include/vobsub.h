@@ -1,4 +1,5 @@
-/* The functions of libvobsub_c.a, for C. Each returns 0, or the number of a refusal (docs/FORMAT.md, section 9). */
+/* The functions of libvobsub_c.a, for C. Each returns 0 where it accepts, and otherwise the number of a refusal, 1 to 31 (docs/FORMAT.md,
+   section 9). */
 #ifndef VOBSUB_H
 #define VOBSUB_H
 

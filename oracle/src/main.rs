@@ -201,6 +201,19 @@ fn noticed(world: &World, classes: &[Class], seed: u64, side: &Side) -> Option<(
             }
         }
     }
+    // what no generated request shows, a fixed one may
+    for class in classes {
+        let (mut number, mut first) = (0, None);
+        (class.fixed)(world, &mut |q| {
+            number += 1;
+            if first.is_none() && differs(&(class.compare)(side, &q)).is_some() {
+                first = Some(number);
+            }
+        });
+        if let Some(number) = first {
+            return Some((class.name, number));
+        }
+    }
     None
 }
 

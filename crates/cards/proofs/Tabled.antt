@@ -32,7 +32,7 @@ use Rattle.grammar.specs.IndexCues.{cuesOf, cueAt, durationOf}
 use Rattle.idx_lines.specs.Lines.{steps, firstOf, lastOf, partsAt}
 use Rattle.idx.specs.Text.{linesIn, textIn}
 use Rattle.listing.specs.Lines.{digitsIn, decimal, shownLine, refusedLine, cuesLine, fileLine}
-use Rattle.listing.specs.Title.{unitFor, shownFor, readable, cuesIn}
+use Rattle.listing.specs.Title.{unitFor, shownFor, readable, cuesIn, cueLines, titleLines}
 use Rattle.idx_lines.specs.Lines as text-lines
 use Rattle.idx_lines.specs.Answers.{timeAt}
 use Rattle.grammar.specs.Picture.{evens}
@@ -40,11 +40,11 @@ use Rattle.demo.specs.Codes.{runs, cut, marksOf, digits, nibblesOf, packed, pic
 use Rattle.demo.specs.Unit.{allColours, pictureOk, sizedUnit, demoAt}
 use Rattle.demo.specs.Unit as demo
 use native.Mathlib.Omega.{arith}
-use Rattle.grammar.specs.Reading.{wordsOf}
+use Rattle.grammar.specs.Reading.{wanted, wordsOf}
 use Rattle.grammar.proofs.Readings as readings
-use Rattle.vobsub.specs.Call.{wanted, lent}
+use Rattle.vobsub.specs.Call.{lent}
 use Rattle.vobsub.proofs.Claim.{reading-iff}
-use Rattle.cards.specs.Table.{Card, code, field, fields, unit, found, written, upper, position, start, small-text, small-file, small-cue, small-shown, shows, cue, title, small-title, small-painted, bytes, lines, table}
+use Rattle.cards.specs.Table.{Card, code, reader, field, fields, unit, found, held, written, upper, position, start, stamped, hours-stand, hours-leave, small-text, small-file, small-cue, small-shown, shows, cue, title, small-title, small-painted, bytes, lines, table}
 
 abbrev gotOf : List Card → List (List ℕ)
 gotOf = map (λ (c : Card). c .got)
@@ -53,12 +53,21 @@ abbrev wantOf : List Card → List (List ℕ)
 wantOf = map (λ (c : Card). c .want)
 
 bytes-hold : gotOf bytes ≡ wantOf bytes
-unfolding bytes code field fields unit found written upper evens runs cut marksOf digits nibblesOf packed pictureRows fieldNibbles allColours pictureOk sizedUnit demoAt demo.unitOf position start numeral startOf all split unsigned signed bare text-lines.fields steps timeAt joined unitOf leading header1At headerAt bodyAt keptAt packAt privateAt kindAt packetAt packetsAt isBare formAt listFuel listFrom word nibble nibbles paints afterCodes align rowPixels codesIn indexMap untold tellBlock tellChain topEnd codeFrom codeAt rowAt fieldAt rowsFrom paintField decoded rowCounts fieldCounts weave lowerAt fieldsAt plainAt changeAt orderAt commandAt commandsAt blockAt blocksAt headFits chainAt controlAt spuOf entryWords bandWords rowsAt unitAt
+unfolding bytes code reader field fields unit found held unitFor written upper evens runs cut marksOf digits nibblesOf packed pictureRows fieldNibbles allColours pictureOk sizedUnit demoAt demo.unitOf position start numeral startOf all split unsigned signed bare text-lines.fields steps timeAt joined unitOf leading header1At headerAt bodyAt keptAt packAt privateAt kindAt packetAt packetsAt isBare formAt listFuel listFrom word nibble nibbles paints afterCodes align rowPixels codesIn indexMap untold tellBlock tellChain topEnd codeFrom codeAt rowAt fieldAt rowsFrom paintField decoded rowCounts fieldCounts weave lowerAt fieldsAt plainAt changeAt orderAt commandAt commandsAt blockAt blocksAt headFits chainAt controlAt spuOf entryWords bandWords rowsAt unitAt
 bytes-hold = refl
 
 lines-hold : gotOf lines ≡ wantOf lines
-unfolding lines front rest shorn trim strip checked cuesOf cueAt durationOf firstOf lastOf partsAt text-lines.lineOf linesIn textIn digitsIn decimal shownLine refusedLine cuesLine fileLine unitFor shownFor code field fields unit found written upper evens runs cut marksOf digits nibblesOf packed pictureRows fieldNibbles allColours pictureOk sizedUnit demoAt demo.unitOf position start numeral startOf all split unsigned signed bare text-lines.fields steps timeAt joined unitOf leading header1At headerAt bodyAt keptAt packAt privateAt kindAt packetAt packetsAt isBare formAt listFuel listFrom word nibble nibbles paints afterCodes align rowPixels codesIn indexMap untold tellBlock tellChain topEnd codeFrom codeAt rowAt fieldAt rowsFrom paintField decoded rowCounts fieldCounts weave lowerAt fieldsAt plainAt changeAt orderAt commandAt commandsAt blockAt blocksAt headFits chainAt controlAt spuOf entryWords bandWords rowsAt unitAt
+unfolding lines titleLines cueLines front rest shorn trim strip checked cuesOf cueAt durationOf firstOf lastOf partsAt text-lines.lineOf linesIn textIn digitsIn decimal shownLine refusedLine cuesLine fileLine unitFor shownFor code field fields unit found written upper evens runs cut marksOf digits nibblesOf packed pictureRows fieldNibbles allColours pictureOk sizedUnit demoAt demo.unitOf position start numeral startOf all split unsigned signed bare text-lines.fields steps timeAt joined unitOf leading header1At headerAt bodyAt keptAt packAt privateAt kindAt packetAt packetsAt isBare formAt listFuel listFrom word nibble nibbles paints afterCodes align rowPixels codesIn indexMap untold tellBlock tellChain topEnd codeFrom codeAt rowAt fieldAt rowsFrom paintField decoded rowCounts fieldCounts weave lowerAt fieldsAt plainAt changeAt orderAt commandAt commandsAt blockAt blocksAt headFits chainAt controlAt spuOf entryWords bandWords rowsAt unitAt
 lines-hold = refl
+
+-- a time at the end of its range, and one past it
+stand-holds : hours-stand .got ≡ hours-stand .want
+unfolding hours-stand stamped front rest shorn trim strip checked cuesOf cueAt durationOf firstOf lastOf partsAt text-lines.lineOf linesIn textIn numeral startOf all split unsigned signed bare text-lines.fields steps timeAt
+stand-holds = refl
+
+leave-holds : hours-leave .got ≡ hours-leave .want
+unfolding hours-leave stamped front rest shorn trim strip checked cuesOf cueAt durationOf firstOf lastOf partsAt text-lines.lineOf linesIn textIn numeral startOf all split unsigned signed bare text-lines.fields steps timeAt
+leave-holds = refl
 
 -- the title of 2 by 2: its cues, and its line
 small-cues : cuesIn small-text ≡ ok (small-cue ∷ [])
@@ -69,7 +78,7 @@ small-shows : shownFor (small-cue ∷ []) small-file 0 ≡ ok small-shown
 unfolding small-file front rest shorn trim strip checked cuesOf cueAt durationOf firstOf lastOf partsAt text-lines.lineOf linesIn textIn digitsIn decimal shownLine refusedLine cuesLine fileLine unitFor shownFor code field fields unit found written upper evens runs cut marksOf digits nibblesOf packed pictureRows fieldNibbles allColours pictureOk sizedUnit demoAt demo.unitOf position start numeral startOf all split unsigned signed bare text-lines.fields steps timeAt joined unitOf leading header1At headerAt bodyAt keptAt packAt privateAt kindAt packetAt packetsAt isBare formAt listFuel listFrom word nibble nibbles paints afterCodes align rowPixels codesIn indexMap untold tellBlock tellChain topEnd codeFrom codeAt rowAt fieldAt rowsFrom paintField decoded rowCounts fieldCounts weave lowerAt fieldsAt plainAt changeAt orderAt commandAt commandsAt blockAt blocksAt headFits chainAt controlAt spuOf entryWords bandWords rowsAt unitAt
 small-shows = refl
 
-small-line : (cuesLine 1 ++ shownLine 0 small-shown) ≡ small-title .want
+small-line : (cuesLine 1 ++ (shownLine 0 small-shown ++ [])) ≡ small-title .want
 unfolding small-title front rest shorn trim strip checked cuesOf cueAt durationOf firstOf lastOf partsAt text-lines.lineOf linesIn textIn digitsIn decimal shownLine refusedLine cuesLine fileLine unitFor shownFor code field fields unit found written upper evens runs cut marksOf digits nibblesOf packed pictureRows fieldNibbles allColours pictureOk sizedUnit demoAt demo.unitOf position start numeral startOf all split unsigned signed bare text-lines.fields steps timeAt joined unitOf leading header1At headerAt bodyAt keptAt packAt privateAt kindAt packetAt packetsAt isBare formAt listFuel listFrom word nibble nibbles paints afterCodes align rowPixels codesIn indexMap untold tellBlock tellChain topEnd codeFrom codeAt rowAt fieldAt rowsFrom paintField decoded rowCounts fieldCounts weave lowerAt fieldsAt plainAt changeAt orderAt commandAt commandsAt blockAt blocksAt headFits chainAt controlAt spuOf entryWords bandWords rowsAt unitAt
 small-line = refl
 
@@ -78,7 +87,7 @@ unfolding small-text small-file
 small-readable = refl
 
 small-holds : small-title .got ≡ small-title .want
-unfolding small-title title
+unfolding small-title title titleLines cueLines
 small-holds = rw (small-readable, small-cues, small-shows) small-line
 
 -- its reading is a closed term that passes the grammar, and so the one that is found
@@ -93,6 +102,9 @@ map-both : (f : Card → List ℕ) (a b : List Card) → map f (a ++ b) ≡ map 
 map-both f [] b = refl
 map-both f (c ∷ a) b = ap (λ (l : List (List ℕ)). f c ∷ l) (map-both f a b)
 
+first : {x y : List ℕ} {l m : List (List ℕ)} → x ≡ y → l ≡ m → x ∷ l ≡ y ∷ m
+first p q = ap₂ (λ (x : List ℕ) (l : List (List ℕ)). x ∷ l) p q
+
 abbrev pub got : List (List ℕ)
 got = gotOf table
 
@@ -101,9 +113,11 @@ want = wantOf table
 
 pub tabled : got ≡ want
 tabled =
-    ap₂ (λ (x : List ℕ) (l : List (List ℕ)). x ∷ l) small-paints
-    (ap₂ (λ (x : List ℕ) (l : List (List ℕ)). x ∷ l) small-holds
-    (map-both (λ (c : Card). c .got) bytes lines ∙ ap₂ (λ (a b : List (List ℕ)). a ++ b) bytes-hold lines-hold ∙ sym (map-both (λ (c : Card). c .want) bytes lines)))
+    first stand-holds
+    (first leave-holds
+    (first small-paints
+    (first small-holds
+    (map-both (λ (c : Card). c .got) bytes lines ∙ ap₂ (λ (a b : List (List ℕ)). a ++ b) bytes-hold lines-hold ∙ sym (map-both (λ (c : Card). c .want) bytes lines)))))
 
 pub each : (k : ℕ) → getD got k [] ≡ getD want k []
 each k = ap (λ (l : List (List ℕ)). getD l k []) tabled

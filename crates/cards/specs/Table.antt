@@ -9,16 +9,22 @@ use lib.IntN.{natAbs, pos, negsuc}
 use Rattle.outcome.specs.Outcome.{Res, ok, refuse, need, listed, bad-position}
 use Rattle.grammar.specs.IndexParts.{colon}
 use Rattle.grammar.specs.IndexCues.{Cue}
-use Rattle.grammar.specs.Reading.{Shown, shown, canvasOf}
+use Rattle.grammar.specs.Reading.{wanted, Shown, shown, canvasOf}
 use Rattle.idx_numbers.specs.Numbers.{positionOf}
 use Rattle.idx_numbers.specs.Parts.{split}
+use Rattle.idx_lines.specs.Lines.{timestampOf}
 use Rattle.idx_lines.specs.Answers.{timeAt}
+use Rattle.grammar.specs.Parts.{Part}
+use Rattle.grammar.specs.Index.{Said, size, palette, timestamp, startOf}
 use Rattle.grammar.specs.Rows.{colour, paints}
 use Rattle.grammar.specs.Pixels.{codesIn, indexMap}
 use Rattle.grammar.specs.Control.{forced-start, stop, selectors, alphas, area, offsets, colours, Block}
 use Rattle.grammar.specs.Packets.{subpicture, unitOf}
 use Rattle.grammar.specs.Record.{told, delayOf, width, height}
 use Rattle.codes.specs.Codes.{codeAt}
+use Rattle.nibbles.specs.Nibbles.{nibbleAt, nibbleAnswer, pastNibble, onByte}
+use Rattle.nibbles.specs.declared.Nibble.{Nibble}
+use Rattle.nibbles.specs.declared.Nibble.the-variants.{Is, Refused}
 use Rattle.rle.specs.Field.{decoded, paintField}
 use Rattle.rle.specs.Answers.{fieldCounts}
 use Rattle.control.specs.Chain.{command}
@@ -26,10 +32,10 @@ use Rattle.control.specs.Answers.{spuOf}
 use Rattle.control.specs.declared.Spu.{Spu}
 use Rattle.ps.specs.Packets.{formAt}
 use Rattle.spu.specs.Unit.{unitAt}
-use Rattle.vobsub.specs.Call.{wanted, Lent, lent, readingIn}
+use Rattle.vobsub.specs.Call.{Lent, lent, readingIn}
 use Rattle.listing.specs.Lines.{refusedLine}
 use Rattle.listing.specs.Lines as line
-use Rattle.listing.specs.Title.{headLine, listedCues, cueLine}
+use Rattle.listing.specs.Title.{unitFor, titleLines}
 use Rattle.demo.specs.Codes.{lastMarks, packed}
 use Rattle.demo.specs.Unit.{topNibbles, demoAt}
 
@@ -48,6 +54,14 @@ outcome f (refuse n) = n ∷ []
 -- the code at the front of s: its nibbles, how many of 1,000 pixels it paints, and their colour
 unfoldable pub code : List ℕ → List ℕ
 code s = outcome (λ c. c .size ∷ paints 1000 c ∷ colour c ∷ []) (codeAt s (length s) 0)
+
+-- a reader of the nibbles of s at count p: the nibble that it reads, the count after that, and the count that it aligns to
+abbrev read : Nibble → List ℕ
+read (Is n) = 0 ∷ n ∷ []
+read (Refused n) = n ∷ []
+
+unfoldable pub reader : List ℕ → ℕ → List ℕ
+reader s p = read (nibbleAnswer (nibbleAt s p)) ++ pastNibble s p ∷ onByte s p ∷ []
 
 -- the field s read into the rows start, start + 2, .. of the map px: the number of codes, and the map
 unfoldable pub field : List ℕ → ℕ → ℕ → ℕ → List ℕ → List ℕ
@@ -70,6 +84,10 @@ unit u =
 -- the unit at the front of the file f
 unfoldable pub found : List ℕ → List ℕ
 found f = outcome unitOf (formAt subpicture f 0)
+
+-- the number of codes of the unit at the front of the file f
+unfoldable pub held : List ℕ → List ℕ
+held f = outcome (λ l. codesIn (l .rows) ∷ []) (unitFor f 0)
 
 -- the unit that is written for a picture, with 65,535 bytes of output, and its top field
 unfoldable pub written : ℕ → ℕ → List ℕ → List ℕ
@@ -136,9 +154,24 @@ shows s = natAbs (s .start) ∷ lasting (s .duration) ++ s .start-delay ∷ s .s
 unfoldable pub cue : List ℕ → List ℕ → Lent → List ℕ
 cue text file b = outcome (λ r. shows (shown r) ++ canvasOf r) (readingIn text file (wanted 0) b)
 
--- the first line of the title with this index text and this file, and the line of its cue 0
+-- all that is written of the title with this index text and this file
 unfoldable pub title : List ℕ → List ℕ → List ℕ
-title text file = headLine true text file ++ cueLine (listedCues true text file) file 0
+title text file = titleLines true text file
+
+-- the start, not below 0, that a timestamp with these parts says: the digits 256204778 and one more, and `filepos: 0`
+abbrev startIn : Option Said → List ℕ
+startIn none = []
+startIn (some (size l w h)) = []
+startIn (some (palette l ts)) = []
+startIn (some (timestamp l ps fs n)) = natAbs (startOf fs) ∷ []
+
+abbrev part : ℕ → List ℕ → Part
+part p s = record { place = p; bytes = s }
+
+unfoldable pub stamped : ℕ → List ℕ
+stamped d =
+    outcome startIn
+    (timestampOf (part 0 []) (part 11 (hours d) ∷ part 23 (102 ∷ 105 ∷ 108 ∷ 101 ∷ 112 ∷ 111 ∷ 115 ∷ 58 ∷ 32 ∷ 48 ∷ []) ∷ []))
 
 unfoldable pub bytes : List Card
 bytes =
@@ -151,6 +184,11 @@ bytes =
     ∷ card (code (0x01 ∷ 0x00 ∷ [])) (0 ∷ 4 ∷ 64 ∷ 0 ∷ [])
     ∷ card (code (0x03 ∷ 0xFF ∷ [])) (0 ∷ 4 ∷ 255 ∷ 3 ∷ [])
     ∷ card (code (0x00 ∷ 0xF7 ∷ [])) (0 ∷ 4 ∷ 1000 ∷ 3 ∷ [])
+    -- a reader of one byte at each of its halves, the high one first, at the end, and past it (FORMAT 5.1, 5.6)
+    ∷ card (reader (0xA5 ∷ []) 0) (0 ∷ 10 ∷ 1 ∷ 0 ∷ [])
+    ∷ card (reader (0xA5 ∷ []) 1) (0 ∷ 5 ∷ 2 ∷ 2 ∷ [])
+    ∷ card (reader (0xA5 ∷ []) 2) (26 ∷ 2 ∷ 2 ∷ [])
+    ∷ card (reader (0xA5 ∷ []) 3) (26 ∷ 3 ∷ 3 ∷ [])
     -- a run of 64, and a fill of what is left of 65
     ∷ card (field (0x01 ∷ 0x01 ∷ 0x00 ∷ 0x02 ∷ []) 65 1 0 (replicate 65 0)) (0 ∷ 2 ∷ replicate 64 1 ++ 2 ∷ [])
     -- rows 0 and 2 of three, and rows 1 and 3 of four: each next row two on, from a byte
@@ -175,6 +213,9 @@ bytes =
     ∷ card (found (0x00 ∷ 0x00 ∷ 0x01 ∷ 0xBD ∷ 0x00 ∷ 0x08 ∷ 0x80 ∷ 0x00 ∷ 0x00 ∷ 0x20 ∷ 0x00 ∷ 0x04 ∷ 0x00 ∷ 0x04 ∷ [])) (0 ∷ 0x00 ∷ 0x04 ∷ 0x00 ∷ 0x04 ∷ [])
     ∷ card (found (0x00 ∷ 0x00 ∷ 0x01 ∷ 0xBD ∷ 0x00 ∷ 0x06 ∷ 0x80 ∷ 0x00 ∷ 0x00 ∷ 0x20 ∷ 0x00 ∷ 0x00 ∷ [])) (0 ∷ [])
     ∷ card (found (0x00 ∷ 0x03 ∷ 0x00 ∷ 0x04 ∷ [])) (13 ∷ [])
+    -- those two packets read on: one code of the kept unit, and 15 for the empty one
+    ∷ card (held (0x00 ∷ 0x00 ∷ 0x01 ∷ 0xBD ∷ 0x00 ∷ 0x08 ∷ 0x80 ∷ 0x00 ∷ 0x00 ∷ 0x20 ∷ 0x00 ∷ 0x04 ∷ 0x00 ∷ 0x04 ∷ [])) (0 ∷ 1 ∷ [])
+    ∷ card (held (0x00 ∷ 0x00 ∷ 0x01 ∷ 0xBD ∷ 0x00 ∷ 0x06 ∷ 0x80 ∷ 0x00 ∷ 0x00 ∷ 0x20 ∷ 0x00 ∷ 0x00 ∷ [])) (15 ∷ [])
     ∷ card (found []) (12 ∷ [])
     -- each value of what was told in its field of the record
     ∷ card (fieldsOf (spuOf (told blocks) 13)) (1 ∷ 2 ∷ 3 ∷ 4 ∷ 11 ∷ 12 ∷ 1 ∷ 7 ∷ 1 ∷ 9 ∷ 1 ∷ 5 ∷ 6 ∷ 1 ∷ 3 ∷ 13 ∷ [])
@@ -198,7 +239,7 @@ lines =
     card (line.signed (negsuc 0)) (45 ∷ 49 ∷ [])
     ∷ card (line.signed (negsuc 9223372036854775807)) (45 ∷ 57 ∷ 50 ∷ 50 ∷ 51 ∷ 51 ∷ 55 ∷ 50 ∷ 48 ∷ 51 ∷ 54 ∷ 56 ∷ 53 ∷ 52 ∷ 55 ∷ 55 ∷ 53 ∷ 56 ∷ 48 ∷ 56 ∷ [])
     ∷ card (refusedLine 10 26) (49 ∷ 48 ∷ 32 ∷ 114 ∷ 101 ∷ 102 ∷ 117 ∷ 115 ∷ 101 ∷ 100 ∷ 32 ∷ 50 ∷ 54 ∷ 10 ∷ [])
-    ∷ card (headLine false [] []) (102 ∷ 105 ∷ 108 ∷ 101 ∷ 32 ∷ 114 ∷ 101 ∷ 102 ∷ 117 ∷ 115 ∷ 101 ∷ 100 ∷ 10 ∷ [])
+    ∷ card (titleLines false [] []) (102 ∷ 105 ∷ 108 ∷ 101 ∷ 32 ∷ 114 ∷ 101 ∷ 102 ∷ 117 ∷ 115 ∷ 101 ∷ 100 ∷ 10 ∷ [])
     ∷ []
 
 -- the title of the picture of 2 by 2: `cues 1` and `0 1000000 - 0 0 2 2 0 0 3`
@@ -211,6 +252,13 @@ small-painted =
     card (cue small-text small-file (lent [] (replicate 4 9) [] (replicate 16 9)))
     (0 ∷ 1000000 ∷ 0 ∷ 0 ∷ 0 ∷ 0 ∷ 0 ∷ 2 ∷ 2 ∷ 3 ∷ 0 ∷ 0 ∷ 0 ∷ 255 ∷ 0 ∷ 0 ∷ 0 ∷ 255 ∷ 0 ∷ 0 ∷ 0 ∷ 255 ∷ 0 ∷ 0 ∷ 0 ∷ 255 ∷ [])
 
+-- 2562047788 hours in a timestamp, and one hour more
+unfoldable pub hours-stand : Card
+hours-stand = card (stamped 56) (0 ∷ 9223372036800000000 ∷ [])
+
+unfoldable pub hours-leave : Card
+hours-leave = card (stamped 57) (8 ∷ [])
+
 -- all of them
 abbrev pub table : List Card
-table = small-painted ∷ small-title ∷ bytes ++ lines
+table = hours-stand ∷ hours-leave ∷ small-painted ∷ small-title ∷ bytes ++ lines

@@ -5,11 +5,12 @@ use mathlib.Core.Path.{_≡_, refl, sym, ap, _∙_, subst}
 use mathlib.Core.Bool.{Bool, true, false, cond}
 use mathlib.Core.Logic.{_⊎_, inl, inr, ⊎-elim}
 use mathlib.Core.List.{List, [], _∷_}
-use lib.Dec.{eqb}
+use lib.Dec.{leb, eqb}
 use lib.ListN.{length}
 use lib.Seq.{sets, slice, take-all}
 use borrow.Author.Tests.{le-leb, lt-leb}
-use Rattle.outcome.specs.Outcome.{Res, ok, refuse, listed, no-band-list, short-words}
+use Rattle.outcome.proofs.Numbers.{in-table, check-numbered, andThen-numbered, only-numbered}
+use Rattle.outcome.specs.Outcome.{Res, ok, refuse, listed, no-band-list, short-words, Numbered}
 use Rattle.outcome.proofs.Laws.{ok-not-refuse, refuse-injective, le-or-lt}
 use Rattle.chg_colcon.specs.Bands.{push3, wordOf, header, entryOf, onHead, onEntry, bandsOf, entriesOf}
 use Rattle.chg_colcon.specs.Answers.{countOf, stored, Stored}
@@ -34,7 +35,7 @@ either false k r s f g q = g q
 mutual
   unfolding bandsOf entriesOf
 
-  bands-refuses : (s : List ℕ) (k : ℕ) → bandsOf s ≡ refuse k → k ≡ no-band-list
+  pub bands-refuses : (s : List ℕ) (k : ℕ) → bandsOf s ≡ refuse k → k ≡ no-band-list
   bands-refuses [] k q = ok-not-refuse (sym q)
   bands-refuses (a ∷ []) k q = sym (refuse-injective q)
   bands-refuses (a ∷ b ∷ []) k q = sym (refuse-injective q)
@@ -61,6 +62,12 @@ mutual
           → (r : EntryRead) → onEntry r (λ col. cond (eqb n 1) (bandsOf s) (entriesOf s (n - 1) (col + 1))) ≡ refuse k → k ≡ no-band-list
       go f g E.Bad q = sym (refuse-injective q)
       go f g (E.Got c x y) q = either (eqb n 1) k (bandsOf s) (entriesOf s (n - 1) (c + 1)) f (g c) (push-refuses c x y k (cond (eqb n 1) (bandsOf s) (entriesOf s (n - 1) (c + 1))) q)
+
+pub stored-numbered : (s : List ℕ) (at : ℕ) (ws : List ℕ) → Numbered (stored s at ws)
+unfolding stored
+stored-numbered s at ws =
+    andThen-numbered (bandsOf s) _ (only-numbered no-band-list (in-table no-band-list refl refl) (bandsOf s) (bands-refuses s))
+    (λ v. check-numbered (leb (at + length v) (length ws)) short-words (ok v) (in-table short-words refl refl) tt)
 
 -- ---- The claim
 

@@ -9,14 +9,15 @@ use mathlib.Core.List.{List, [], _∷_}
 use lib.ListN.{length}
 use lib.Dec.{ltb, eqb}
 use borrow.Author.Tests.{le-leb, lt-leb, lt-ltb, le-ltb, eq-eqb, ne-eqb, eqb-true, eqb-false}
-use Rattle.outcome.specs.Outcome.{ok, andThen, consRes}
+use Rattle.outcome.specs.Outcome.{ok, andThen, consRes, listedBy}
 use Rattle.outcome.specs.Lists.{Listed}
 use Rattle.outcome.proofs.Laws.{ok-not-refuse, ok-injective, andThen-ok, consRes-ok, le-or-lt}
-use Rattle.outcome.proofs.Lists.{list-iff, list-step}
+use Rattle.outcome.proofs.Lists.{list-iff, list-step, read-all}
+use Rattle.outcome.proofs.Lists as lists
 use Rattle.grammar.specs.Bytes.{nibble, nibbles}
 use Rattle.grammar.specs.Rows.{Code, IsCode, fills, paints, RowCodes, afterCodes, align, FieldRows}
 use Rattle.grammar.proofs.Unique.{nibbles-below}
-use Rattle.codes.specs.Codes.{made, codeFrom, codeAt, Standing, standing, rowDone, rowCode, rowNext, rowAt, fieldAt}
+use Rattle.codes.specs.Codes.{made, codeFrom, codeAt, Standing, standing, rowDone, rowCode, rowNext, rowAt, rowRead, fieldAt, fieldRead}
 
 -- ---- The code at a place
 
@@ -91,14 +92,6 @@ four-le-pow : (k : ℕ) → 1 ≤ k → 4 ≤ 4 ^ k
 four-le-pow zero h = absurd (omega arith)
 four-le-pow (suc k) h = omega (arith, pow-succ' 4 k, one-le-pow k 4 (omega arith))
 
-pub paints-le : (left : ℕ) (c : Code) → paints left c ≤ left
-unfolding paints
-paints-le left c = go (eqb (c .size) 4 && ltb (c .value) 256)
-  where
-    go : (t : Bool) → cond t left (min left (c .value / 4)) ≤ left
-    go true = omega arith
-    go false = omega arith
-
 -- a code fills, or its number is 4 at least
 pub code-kind : (u : List ℕ) (e : ℕ) (c : Code) → IsCode u e c → (fills c ≡ true) ⊎ ((fills c ≡ false) × (4 ≤ c .value))
 code-kind u e c g =
@@ -165,6 +158,17 @@ module _ (u : List ℕ) (e : ℕ) where
   unfolding RowCodes
   row-none p = row-iff 0 p [] .1 refl
 
+  -- what is read of a row: one turn, and all of it where the row is there
+  pub read-step : (left p : ℕ) → 0 < left → rowRead u e left p ≡ listedBy (codeAt u e p) (λ c. c ∷ rowRead u e (left - paints left c) (p + c .size))
+  unfolding rowRead
+  read-step left p h =
+      lists.read-step rowDone (rowCode u e) rowNext (λ q. q .left) row-falls (standing left p) ∙ rw (pos-eqb left .1 h)
+
+  pub read-row : (left p : ℕ) (cs : List Code) → rowAt u e left p ≡ ok cs → rowRead u e left p ≡ cs
+  unfolding rowRead
+  read-row left p cs q =
+      read-all rowDone (rowCode u e) rowNext (λ q. q .left) row-falls (standing left p) cs (row-listed left p cs (row-iff left p cs .0 q))
+
 -- ---- Fields
 
 module _ (u : List ℕ) (e w : ℕ) where
@@ -189,3 +193,13 @@ module _ (u : List ℕ) (e w : ℕ) where
   -- n rows are found exactly where the grammar passes them
   pub field-iff : (n p : ℕ) (rs : List (List Code)) → (fieldAt u e w n p ≡ ok rs) ↔ ((length rs ≡ n) × FieldRows u e w p rs)
   field-iff n p rs = (field-sound n p rs, λ h. field-complete n p rs (h .0) (h .1))
+
+  -- of a field whose rows are there all are read
+  pub read-field : (n p : ℕ) (rs : List (List Code)) → fieldAt u e w n p ≡ ok rs → fieldRead u e w n p ≡ rs
+  unfolding fieldAt fieldRead
+  read-field zero p rs q = ok-injective q
+  read-field (suc n) p rs q =
+      let x = andThen-ok (rowAt u e w p) (λ r. consRes r (fieldAt u e w n (align (afterCodes p r)))) q in
+      let y = consRes-ok (x .0) (fieldAt u e w n (align (afterCodes p (x .0)))) (x .2) in
+      (λ i. read-row u e w p (x .0) (x .1) i ∷ listedBy (x .1 i) (λ r. fieldRead u e w n (align (afterCodes p r))))
+      ∙ ap (λ (l : List (List Code)). x .0 ∷ l) (read-field n (align (afterCodes p (x .0))) (y .0) (y .1)) ∙ y .2

@@ -2,10 +2,10 @@
 -- A field is the bytes of u before place e. Assumes nothing: these are definitions.
 use Prim.Native.Nat.{ℕ, zero, suc, _+_, _-_, _*_, _^_}
 use mathlib.Core.Bool.{Bool, cond}
-use mathlib.Core.List.{List, []}
+use mathlib.Core.List.{List, [], _∷_}
 use lib.Dec.{leb, eqb}
-use Rattle.outcome.specs.Outcome.{Res, ok, check, andThen, consRes, field-ran-out}
-use Rattle.outcome.specs.Lists.{listFrom}
+use Rattle.outcome.specs.Outcome.{Res, ok, check, andThen, consRes, listedBy, field-ran-out}
+use Rattle.outcome.specs.Lists.{listFrom, readFrom}
 use Rattle.grammar.specs.Bytes.{nibbles}
 use Rattle.grammar.specs.Rows.{Code, code, paints, afterCodes, align}
 
@@ -44,7 +44,16 @@ rowNext q c = standing (q .left - paints (q .left) c) (q .place + c .size)
 unfoldable pub rowAt : List ℕ → ℕ → ℕ → ℕ → Res (List Code)
 rowAt u e left p = listFrom rowDone (rowCode u e) rowNext (λ q. q .left) (standing left p)
 
+-- those of them that are read before the field runs out
+unfoldable pub rowRead : List ℕ → ℕ → ℕ → ℕ → List Code
+rowRead u e left p = readFrom rowDone (rowCode u e) rowNext (λ q. q .left) (standing left p)
+
 -- n rows of width w from p on, each on a byte (FORMAT 5.6, 5.7)
 unfoldable pub fieldAt : List ℕ → ℕ → ℕ → ℕ → ℕ → Res (List (List Code))
 fieldAt u e w zero p = ok []
 fieldAt u e w (suc n) p = andThen (rowAt u e w p) (λ r. consRes r (fieldAt u e w n (align (afterCodes p r))))
+
+-- those of them that are read before the field runs out: whole rows, and the codes of the row in which it does
+unfoldable pub fieldRead : List ℕ → ℕ → ℕ → ℕ → ℕ → List (List Code)
+fieldRead u e w zero p = []
+fieldRead u e w (suc n) p = rowRead u e w p ∷ listedBy (rowAt u e w p) (λ r. fieldRead u e w n (align (afterCodes p r)))

@@ -3,3 +3,4 @@ pub mod Listed
 pub mod Laws
 pub mod Told
 pub mod Turns
+pub mod Numbers

@@ -69,6 +69,7 @@ fn word_of(a: u8, b: u8) -> u16
 }
 
 // The word at place i.
+// Ruled out: the low byte first; the byte at i alone.
 pub fn word_at(unit: &[u8], i: usize) -> u16
     requires { ⌜ i + 2 ≤ length (now unit) ⌝ }
     ensures { λ r. ⌜ r ≡ word (now (unit .entry)) i ⌝ }
@@ -195,6 +196,7 @@ fn with_area_at(unit: &[u8], p: usize, spu: Spu) -> Spu
 }
 
 // How many bytes of parameters a command other than a colour change has.
+// Ruled out: the command's own byte counted; the size of a word for an area.
 pub fn taken(code: u8) -> usize
     requires { ⌜ code < 7 ⌝ }
     ensures { λ r. ⌜ ((u : List ℕ) (p : ℕ) → r ≡ sizeOf (plainAt u p code)) ⌝ }

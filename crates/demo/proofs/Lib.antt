@@ -7,3 +7,4 @@ pub mod Ink
 pub mod Picture
 pub mod Whole
 pub mod Claim
+pub mod Numbers

@@ -178,7 +178,7 @@ fn small() {
     row(b"no index", 1, 1, b"", 40);
     row(b"a width of 0", 0, 1, b"", 40);
     row(b"a height of 0", 1, 0, b"", 40);
-    row(b"a width of 4,097", 4097, 0, b"", 40);
+    row(b"a width of 4,097", 4097, 1, b"", 40);
     row(b"a height of 4,097", 1, 4097, b"", 40);
     row(
         b"the greatest sides",
@@ -378,5 +378,6 @@ fn main() {
     largest(b"a unit of 65,535 bytes, output as long", 372, 65535);
     largest(b"a unit of 65,535 bytes, output one byte short", 372, 65534);
     largest(b"a unit of 65,536 bytes", 368, 65536);
+    largest(b"a unit of 65,536 bytes, output one byte short", 368, 65535);
     exhaustive();
 }

@@ -12,14 +12,7 @@ use Rattle.rle.specs.Field.{paintField}
 use Rattle.fields.specs.Fields.{weave}
 use Rattle.rle.specs.Answers.{plus, rowCounts, fieldCounts}
 use Rattle.rle.specs.declared.Counts.{Counts}
-use Rattle.codes.proofs.Laws.{paints-le}
-
--- a row has as many pixels as are to go
-pub row-length : (left : ℕ) (cs : List Code) → length (rowPixels left cs) ≡ left
-unfolding rowPixels
-row-length left [] = length-replicate left 0
-row-length left (c ∷ cs) =
-    omega (arith, length-append (replicate (paints left c) (colour c)) (rowPixels (left - paints left c) cs), length-replicate (paints left c) (colour c), row-length (left - paints left c) cs, paints-le left c)
+use Rattle.grammar.proofs.Lengths.{row-length}
 
 -- ---- Stores at places apart, in either order
 

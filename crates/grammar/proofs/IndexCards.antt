@@ -8,6 +8,7 @@ use mathlib.Core.List.{List, [], _∷_, map}
 use lib.ListN.{take}
 use lib.IntN.{ℤ, pos, negsuc}
 use Rattle.grammar.specs.Parts.{Part}
+use Rattle.grammar.specs.IndexParts.{blank, parting}
 use Rattle.grammar.specs.IndexNumbers.{Valued, digit, numeral}
 use Rattle.grammar.specs.Index.{Said, size, palette, timestamp, startOf}
 use Rattle.grammar.specs.IndexCues.{Cue, cuesOf, coloursOf, paletteFrom, paletteOf, hasPalette, sizeFrom, displaySize, clip, durationOf, cueAt}
@@ -80,6 +81,9 @@ cards =
     ∷ card (lasting (durationOf (starting (pos 5) ∷ starting (pos 3) ∷ []) 0)) (0 ∷ [])
     ∷ card (lasting (durationOf (starting (negsuc 0) ∷ starting (pos 9223372036854775807) ∷ []) 0)) (9223372036854775807 ∷ [])
     ∷ card (lasting (durationOf (starting (pos 1) ∷ starting (pos 9223372036854775807) ∷ []) 0)) (9223372036854775806 ∷ [])
+    -- blanks and the bytes beside them; what parts tokens
+    ∷ card (map (λ b. cond (blank b) 1 0) (8 ∷ 9 ∷ 10 ∷ 11 ∷ 12 ∷ 13 ∷ 14 ∷ 31 ∷ 32 ∷ 33 ∷ [])) (0 ∷ 1 ∷ 1 ∷ 1 ∷ 1 ∷ 1 ∷ 0 ∷ 0 ∷ 1 ∷ 0 ∷ [])
+    ∷ card (map (λ b. cond (parting b) 1 0) (13 ∷ 14 ∷ 32 ∷ 43 ∷ 44 ∷ 45 ∷ [])) (1 ∷ 0 ∷ 1 ∷ 0 ∷ 1 ∷ 0 ∷ [])
     -- digits of both cases, and bytes beside them; a number in base 16
     ∷ card (map digit (47 ∷ 48 ∷ 57 ∷ 58 ∷ 64 ∷ 65 ∷ 70 ∷ 71 ∷ 96 ∷ 97 ∷ 102 ∷ 103 ∷ [])) (16 ∷ 0 ∷ 9 ∷ 16 ∷ 16 ∷ 10 ∷ 15 ∷ 16 ∷ 16 ∷ 10 ∷ 15 ∷ 16 ∷ [])
     ∷ card (numeral 16 0 (49 ∷ 98 ∷ []) ∷ numeral 10 0 (49 ∷ 48 ∷ []) ∷ []) (27 ∷ 10 ∷ [])

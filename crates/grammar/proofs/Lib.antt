@@ -8,5 +8,6 @@ pub mod UniqueReading
 pub mod ReadingLine
 pub mod Readings
 pub mod Edges
+pub mod Lengths
 pub mod IndexCards
 pub mod PaintCards

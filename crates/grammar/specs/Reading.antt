@@ -20,6 +20,9 @@ use Rattle.grammar.specs.Canvas.{toldLook, canvasBytes}
 pub record Wanted : Type 0 where
   pub cue : ℕ
 
+abbrev pub wanted : ℕ → Wanted
+wanted n = record { cue = n }
+
 -- the ids of the packets that keep anything (FORMAT 2.6)
 abbrev pub wantedId : Wanted → ℕ → Bool
 wantedId q = subpicture

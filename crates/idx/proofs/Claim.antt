@@ -1,4 +1,4 @@
--- What the contracts of `parse_idx` and `pick_cue` say in the grammar's words; no refusal is 0. Assumes nothing.
+-- What the contracts of `parse_idx` and `pick_cue` say in the grammar's words; each refusal is one of the table. Assumes nothing.
 use Prim.Native.Nat.{ℕ, _+_, _≤_, _<_, min}
 use mathlib.Core.Path.{_≡_, refl, sym, ap, _∙_, subst}
 use mathlib.Core.Bool.{Bool, true, false}
@@ -9,7 +9,8 @@ use native.Mathlib.Omega.{arith}
 use lib.ListN.{length}
 use lib.Seq.{sets}
 use lib.IntN.{ℤ}
-use Rattle.outcome.specs.Outcome.{Res, ok, refuse, check, need, andThen, listed, high-byte, bad-width, bad-height, bad-token, no-time, no-position, bad-time, long-time, bad-position, short-cues, no-cue}
+use Rattle.outcome.proofs.Numbers.{in-table, check-numbered, need-numbered, andThen-numbered}
+use Rattle.outcome.specs.Outcome.{Res, ok, refuse, check, need, andThen, listed, high-byte, bad-width, bad-height, bad-token, no-time, no-position, bad-time, long-time, bad-position, short-cues, no-cue, InTable, Numbered}
 use Rattle.outcome.proofs.Laws.{refuse-injective, ok-not-refuse, le-or-lt}
 use Rattle.grammar.specs.Parts.{Part}
 use Rattle.grammar.specs.IndexParts.{colon, letter-x, line-end}
@@ -26,67 +27,51 @@ use Rattle.idx.specs.declared.CueAnswer.{CueAnswer}
 use Rattle.idx.proofs.Grammar.{text-is, text-one, text-unique}
 use Rattle.idx.proofs.Picks.{cue-in, cue-out}
 
--- ---- no refusal is 0. Each step that may refuse has a number, and hands the others on
-asked : {A B : Type 0} (m : ℕ) (o : Option A) (k : A → Res B) → (m ≡ 0 → ⊥) → (n : ℕ) → ((a : A) → k a ≡ refuse n → n ≡ 0 → ⊥) → andThen (need m o) k ≡ refuse n → n ≡ 0 → ⊥
-asked m none k h n f e z = h (refuse-injective e ∙ z)
-asked m (some a) k h n f e z = f a e z
+-- ---- a refusal has a number of the table
 
-tested : {A : Type 0} (t : Bool) (m : ℕ) (r : Res A) → (m ≡ 0 → ⊥) → (n : ℕ) → (r ≡ refuse n → n ≡ 0 → ⊥) → check t m r ≡ refuse n → n ≡ 0 → ⊥
-tested true m r h n f e z = f e z
-tested false m r h n f e z = h (refuse-injective e ∙ z)
-
-never-ok : {A : Type 0} {a : A} {n : ℕ} → ok a ≡ refuse n → n ≡ 0 → ⊥
-never-ok e z = ok-not-refuse (sym e)
-
-line-refuses : (i : Part) (n : ℕ) → lineOf i ≡ refuse n → n ≡ 0 → ⊥
+line-numbered : (i : Part) → Numbered (lineOf i)
 unfolding lineOf
-line-refuses i n e = go (after size-word i) (after palette-word i) (after timestamp-word i) e
+line-numbered i = go (after size-word i) (after palette-word i) (after timestamp-word i)
   where
-    sides : (t : Option Two) → sizeOr i t ≡ refuse n → n ≡ 0 → ⊥
-    sides none f = never-ok f
-    sides (some t) f =
-        asked bad-width (unsigned 10 top-side (trim (t .left) .bytes)) _ (λ q. omega arith) n
-        (λ w g. asked bad-height (unsigned 10 top-side (trim (t .right) .bytes)) _ (λ q. omega arith) n (λ h k. never-ok k) g)
-        f
+    sides : (t : Option Two) → Numbered (sizeOr i t)
+    sides none = tt
+    sides (some t) =
+        andThen-numbered (need bad-width (unsigned 10 top-side (trim (t .left) .bytes))) _ (need-numbered bad-width (unsigned 10 top-side (trim (t .left) .bytes)) (in-table bad-width refl refl))
+        (λ w. andThen-numbered (need bad-height (unsigned 10 top-side (trim (t .right) .bytes))) _ (need-numbered bad-height (unsigned 10 top-side (trim (t .right) .bytes)) (in-table bad-height refl refl)) (λ h. tt))
 
-    go : (a b c : Option Part) → byWord i a b c ≡ refuse n → n ≡ 0 → ⊥
-    go (some r) b c f = sides (halves letter-x r) f
-    go none (some r) c f = asked bad-token (tokens 16 (r .place) (r .bytes)) _ (λ q. omega arith) n (λ ts g. never-ok g) f
-    go none none (some r) f =
-        asked no-time (firstOf isOther (partsAt (r .place) (r .bytes))) _ (λ q. omega arith) n
-        (λ t g. asked no-position (lastOf isFilepos (partsAt (r .place) (r .bytes))) _ (λ q. omega arith) n
-        (λ p h. asked bad-time (fields 4 (split colon (t .place) (t .bytes))) _ (λ q. omega arith) n
-        (λ fs k. tested (steps fs) long-time (positionAt i (partsAt (r .place) (r .bytes)) fs p) (λ q. omega arith) n
-        (λ l. asked bad-position (after filepos-word p) _ (λ q. omega arith) n
-        (λ x m. asked bad-position (positionOf (trim x .bytes)) _ (λ q. omega arith) n (λ v o. never-ok o) m)
-        l)
-        k)
-        h)
-        g)
-        f
-    go none none none f = never-ok f
+    go : (a b c : Option Part) → Numbered (byWord i a b c)
+    go (some r) b c = sides (halves letter-x r)
+    go none (some r) c = andThen-numbered (need bad-token (tokens 16 (r .place) (r .bytes))) _ (need-numbered bad-token (tokens 16 (r .place) (r .bytes)) (in-table bad-token refl refl)) (λ ts. tt)
+    go none none (some r) =
+        andThen-numbered (need no-time (firstOf isOther (partsAt (r .place) (r .bytes)))) _ (need-numbered no-time (firstOf isOther (partsAt (r .place) (r .bytes))) (in-table no-time refl refl))
+        (λ t. andThen-numbered (need no-position (lastOf isFilepos (partsAt (r .place) (r .bytes)))) _ (need-numbered no-position (lastOf isFilepos (partsAt (r .place) (r .bytes))) (in-table no-position refl refl))
+        (λ p. andThen-numbered (need bad-time (fields 4 (split colon (t .place) (t .bytes)))) _ (need-numbered bad-time (fields 4 (split colon (t .place) (t .bytes))) (in-table bad-time refl refl))
+        (λ fs. check-numbered (steps fs) long-time (positionAt i (partsAt (r .place) (r .bytes)) fs p) (in-table long-time refl refl)
+        (andThen-numbered (need bad-position (after filepos-word p)) _ (need-numbered bad-position (after filepos-word p) (in-table bad-position refl refl))
+        (λ x. andThen-numbered (need bad-position (positionOf (trim x .bytes))) _ (need-numbered bad-position (positionOf (trim x .bytes)) (in-table bad-position refl refl)) (λ v. tt))))))
+    go none none none = tt
 
-lines-refuses : (room : Option ℕ) (ps : List Part) (k n : ℕ) → linesIn room k ps ≡ refuse n → n ≡ 0 → ⊥
+lines-numbered : (room : Option ℕ) (ps : List Part) (k : ℕ) → Numbered (linesIn room k ps)
 unfolding linesIn
-lines-refuses room [] k n e = never-ok e
-lines-refuses room (p ∷ ps) k n e = go (λ j. lines-refuses room ps j n) (lineOf (trim p)) refl e
-  where
-    last : (o : Option Said) (r : Res (List Said)) → (r ≡ refuse n → n ≡ 0 → ⊥) → andThen r (λ ls. ok (orNone o ls)) ≡ refuse n → n ≡ 0 → ⊥
-    last o (ok ls) h f = never-ok f
-    last o (refuse m) h f = h (ap refuse (refuse-injective f))
+lines-numbered room [] k = tt
+lines-numbered room (p ∷ ps) k =
+    andThen-numbered (lineOf (trim p)) _ (line-numbered (trim p))
+    (λ o. check-numbered (roomFor room k o) short-cues _ (in-table short-cues refl refl)
+    (andThen-numbered (linesIn room (k + cuesIn o) ps) (λ ls. ok (orNone o ls)) (lines-numbered room ps (k + cuesIn o)) (λ ls. tt)))
 
-    go : ((j : ℕ) → linesIn room j ps ≡ refuse n → n ≡ 0 → ⊥) → (r : Res (Option Said)) → lineOf (trim p) ≡ r
-        → andThen r (λ o. check (roomFor room k o) short-cues (andThen (linesIn room (k + cuesIn o) ps) (λ ls. ok (orNone o ls)))) ≡ refuse n → n ≡ 0 → ⊥
-    go ih (refuse m) q f = line-refuses (trim p) n (q ∙ ap refuse (refuse-injective f))
-    go ih (ok o) q f =
-        tested (roomFor room k o) short-cues (andThen (linesIn room (k + cuesIn o) ps) (λ ls. ok (orNone o ls))) (λ z. omega arith) n
-        (last o (linesIn room (k + cuesIn o) ps) (ih (k + cuesIn o)))
-        f
+pub text-numbered : (room : Option ℕ) (text : List ℕ) → Numbered (textIn room text)
+unfolding textIn
+text-numbered room text =
+    check-numbered (all lowByte text) high-byte (linesIn room 0 (split line-end 0 text)) (in-table high-byte refl refl) (lines-numbered room (split line-end 0 text) 0)
 
 pub text-refuses : (room : Option ℕ) (text : List ℕ) (n : ℕ) → textIn room text ≡ refuse n → n ≡ 0 → ⊥
-unfolding textIn
-text-refuses room text n e =
-    tested (all lowByte text) high-byte (linesIn room 0 (split line-end 0 text)) (λ z. omega arith) n (lines-refuses room (split line-end 0 text) 0 n) e
+text-refuses room text n e z = let h : InTable n = subst Numbered e (text-numbered room text) in omega (arith, h .0, z)
+
+pub pick-numbered : (text : List ℕ) (n : ℕ) → Numbered (pickOf (textOf text) n)
+unfolding pickOf
+pick-numbered text n =
+    andThen-numbered (textOf text) _ (text-numbered none text)
+    (λ ls. andThen-numbered (need no-cue (cueAt (cuesOf ls) n)) _ (need-numbered no-cue (cueAt (cuesOf ls) n) (in-table no-cue refl refl)) (λ c. tt))
 
 -- ---- a whole text
 module _ (text : List ℕ) (starts : List ℤ) (positions : List ℕ) (r : IdxAnswer) (starts′ : List ℤ) (positions′ : List ℕ) (h : IdxRead text starts positions r starts′ positions′) where

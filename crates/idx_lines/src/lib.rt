@@ -340,6 +340,7 @@ fn parse_timestamp(s: &[u8]) -> Line
 }
 
 // A trimmed line. The palette has the colours of a palette line after it.
+// Ruled out: a colour of a token after the first bad one; a line whose word has other letters.
 pub fn read_line(l: &[u8], palette: &mut [u8; 48]) -> Line
     ensures { λ r. ⌜ LineRead (now (l .entry)) (now (palette .entry)) r (now (palette .exit)) ⌝ }
 {

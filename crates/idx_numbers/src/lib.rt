@@ -52,6 +52,7 @@ fn is_blank(b: u8) -> bool
 }
 
 // How many leading bytes are blanks.
+// Ruled out: a byte 08 or 0E taken for a blank; a count of all blanks of the part.
 pub fn blanks(s: &[u8]) -> usize
     ensures { λ r. ⌜ r ≡ length (front IndexParts.blank (now (s .entry))) ⌝ }
 {
@@ -66,6 +67,7 @@ pub fn blanks(s: &[u8]) -> usize
 }
 
 // How many bytes are left without the trailing blanks.
+// Ruled out: the number of trailing blanks; blanks within the part cut.
 pub fn kept(s: &[u8]) -> usize
     ensures { λ r. ⌜ r ≡ length (shorn IndexParts.blank (now (s .entry))) ⌝ }
 {
@@ -80,6 +82,7 @@ pub fn kept(s: &[u8]) -> usize
 }
 
 // The part without the blanks at its ends.
+// Ruled out: one blank at each end; a blank within the part cut.
 pub fn trim<'a>(s: &'a [u8]) -> &'a [u8]
     ensures { λ r. ⌜ now r ≡ trimmed (now (s .entry)) ⌝ }
 {
@@ -120,6 +123,7 @@ fn near(s: &[u8], sep: u8) -> usize
 }
 
 // How many bytes stand before the first sep.
+// Ruled out: the last separator; a part without one taken for empty.
 pub fn until(s: &[u8], sep: u8) -> usize
     ensures { λ r. ⌜ r ≡ length (front (IndexParts.unlike sep) (now (s .entry))) ⌝ }
 {
@@ -154,6 +158,7 @@ fn passes(k: Kind, b: u8) -> bool
 }
 
 // How many leading bytes are of the kind.
+// Ruled out: bytes of the kind after another byte; a comma in a token.
 pub fn leading(s: &[u8], k: Kind) -> usize
     ensures { λ r. ⌜ r ≡ length (front (test k) (now (s .entry))) ⌝ }
 {
@@ -178,6 +183,7 @@ fn eight_of(a: u8, b: u8, c: u8, d: u8, e: u8, f: u8, g: u8, h: u8) -> u64
 }
 
 // The eight bytes from place i on as one number: a word of eight letters is one test.
+// Ruled out: the last byte first; seven bytes.
 pub fn eight_at(s: &[u8], i: usize) -> u64
     requires { ⌜ i + 8 ≤ length (now s) ⌝ }
     ensures { λ r. ⌜ r ≡ lowest (take 8 (drop i (now (s .entry)))) ⌝ }
@@ -195,6 +201,7 @@ pub fn eight_at(s: &[u8], i: usize) -> u64
 }
 
 // Whether s starts with w.
+// Ruled out: a part shorter than the word; the word further on.
 pub fn starts(s: &[u8], w: &[u8]) -> bool
     ensures { λ r. ⌜ r ≡ Parts.starts (now (w .entry)) (now (s .entry)) ⌝ }
 {
@@ -250,6 +257,7 @@ fn fits(acc: u64, d: u64, most: u64, last: u64) -> bool
 
 // The decimal digits at the front of s, and their number, if that is within the bound. A bound is given by its quotient and its
 // remainder by the base.
+// Ruled out: the bound itself refused; digits after another byte.
 pub fn decimal_run(s: &[u8], most: u64, last: u64) -> Run
     requires { ⌜ Bound 10 most last ⌝ }
     ensures { λ r. ⌜ r ≡ runOf 10 (most * 10 + last) (now (s .entry)) ⌝ }
@@ -329,6 +337,7 @@ fn whole(r: Run, n: usize) -> Number
 }
 
 // A `+` or nothing, then decimal digits.
+// Ruled out: a sign alone; a `-`.
 pub fn parse_decimal(s: &[u8], most: u64, last: u64) -> Number
     requires { ⌜ Bound 10 most last ⌝ }
     ensures { λ r. ⌜ valueIn r ≡ unsigned 10 (most * 10 + last) (now (s .entry)) ⌝ }
@@ -376,6 +385,7 @@ fn strip_0x<'a>(s: &'a [u8]) -> &'a [u8]
 }
 
 // Hexadecimal, after every leading `0x`, at most 16 * most + 15.
+// Ruled out: a `+` before `0x`; no digit after `0x`.
 pub fn parse_hex(s: &[u8], most: u64) -> Number
     requires { ⌜ Bound 16 most 15 ⌝ }
     ensures { λ r. ⌜ valueIn r ≡ hex (most * 16 + 15) (now (s .entry)) ⌝ }
@@ -385,6 +395,7 @@ pub fn parse_hex(s: &[u8], most: u64) -> Number
 }
 
 // Hexadecimal; only if that fails, decimal. Both bounds are the largest number of 64 bits.
+// Ruled out: decimal read where hexadecimal digits stand; `0x` taken away before decimal digits.
 pub fn parse_position(s: &[u8]) -> Number
     ensures { λ r. ⌜ valueIn r ≡ positionOf (now (s .entry)) ⌝ }
 {
@@ -452,6 +463,7 @@ fn plus(a: i64, b: i64) -> Num
 }
 
 // (((h·60)+m)·60+s)·1,000,000 + ms·1,000, refused where a step leaves signed 64 bits.
+// Ruled out: a step that leaves and comes back; milliseconds taken for microseconds.
 pub fn time_of(h: i64, m: i64, s: i64, ms: i64) -> Num
     ensures { λ r. ⌜ r ≡ microsOf h m s ms ⌝ }
 {

@@ -6,26 +6,22 @@ use mathlib.Core.Option.{Option, some, none}
 use mathlib.Core.List.{List}
 use lib.Seq.{sets}
 use Rattle.outcome.specs.Outcome.{Res, ok, refuse, IsOk, need, andThen, mapRes, no-cue}
-use Rattle.outcome.proofs.Laws.{ok-not-refuse, ok-injective, andThen-ok, mapRes-ok}
+use Rattle.outcome.proofs.Laws.{andThen-ok, mapRes-ok, need-some}
 use Rattle.grammar.specs.Index.{Said, IsText}
 use Rattle.grammar.specs.IndexCues.{Cue, cuesOf, cueAt, durationOf}
 use Rattle.grammar.specs.Packets.{unitOf, subpicture}
 use Rattle.grammar.specs.Record.{told, delayOf, width, height}
 use Rattle.grammar.specs.Pixels.{codesIn}
-use Rattle.grammar.specs.Reading.{Reading, IsReading, Shown, startAt, shown}
+use Rattle.grammar.specs.Reading.{wanted, Reading, IsReading, Shown, startAt, shown}
 use Rattle.idx.proofs.Grammar.{text-unique}
 use Rattle.ps.specs.Packets.{formAt}
 use Rattle.ps.proofs.Laws.{form-iff}
 use Rattle.spu.specs.Unit.{unitAt}
 use Rattle.spu.proofs.Grammar.{unit-iff}
-use Rattle.listing.specs.Lines.{shownLine}
+use Rattle.listing.specs.Lines.{refusedLine}
 use Rattle.listing.specs.Title.{shownAt, unitFor, shownFor, lineOf, cueLine}
-use Rattle.listing.specs.Answers.{Put, Written, wanted, Exactly}
+use Rattle.listing.specs.Answers.{Put, Written, Exactly}
 use Rattle.listing.proofs.Laws.{written}
-
-need-some : {A : Type 0} (n : ℕ) (o : Option A) {a : A} → need n o ≡ ok a → o ≡ some a
-need-some n (some x) e = ap some (ok-injective e)
-need-some n none e = ok-not-refuse e
 
 module _ (cs : List Cue) (f : List ℕ) (n : ℕ) where
   -- what a reading shows is shown
@@ -87,8 +83,14 @@ module _ (cs : List Cue) (f : List ℕ) (n : ℕ) where
           λ y. subst IsOk (sym (reading-shown text (y .0) (ap cuesOf (text-unique text (y .0 .lines) ls (y .1 .text-is) t) ∙ e) (y .1))) tt,
         );
         same = λ text x e h. w .stored ∙ ap (λ (s : Res Shown). sets l 0 (lineOf n s)) (reading-shown text x e h);
+        refused = λ text ls t e m. none-given text ls t e m (shownFor cs f n) refl;
       }
     where
+      none-given : (text : List ℕ) (ls : List Said) → IsText text ls → cuesOf ls ≡ cs → ((x : Reading) → IsReading text f (wanted n) x → ⊥)
+          → (o : Res Shown) → shownFor cs f n ≡ o → (k : ℕ) × (l′ ≡ sets l 0 (refusedLine n k))
+      none-given text ls t e m (ok s) q = let y = shown-reading text ls t e s q in absurd (m (y .0) (y .1))
+      none-given text ls t e m (refuse k) q = (k, w .stored ∙ ap (λ (s : Res Shown). sets l 0 (lineOf n s)) q)
+
       given : (text : List ℕ) (ls : List Said) → IsText text ls → cuesOf ls ≡ cs → (o : Res Shown) → shownFor cs f n ≡ o → IsOk o → (x : Reading) × IsReading text f (wanted n) x
       given text ls t e (ok s) q y = shown-reading text ls t e s q
       given text ls t e (refuse k) q y = absurd y

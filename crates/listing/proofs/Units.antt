@@ -170,10 +170,6 @@ module _ (n : ℕ) (z : ℤ) (o : Option ℕ) where
 
 -- ---- The line of a position
 
--- an answer by its name
-pub named : {f : List ℕ} {p : ℕ} {s s′ : List ℕ} {r t : UnitAnswer} → r ≡ t → Extracted f p s r s′ → Extracted f p s t s′
-named {f} {p} {s} {s′} q d = subst (λ (x : UnitAnswer). Extracted f p s x s′) q d
-
 module _ (f : List ℕ) (bytes : (i : ℕ) → Fits w8 (byte f i)) (p : ℕ) (s s′ : List ℕ) (long : length s ≡ 65536) (r : UnitAnswer) (d : Extracted f p s r s′) where
   open-form : ps-unit.unitAt subpicture f p (length s) ≡ formAt subpicture f p
   open-form = scratch-open f (small-all f (λ i. bytes i .fits)) p (length s) (omega arith)

@@ -11,10 +11,10 @@ use lib.Seq.{sets}
 use Rattle.outcome.specs.Outcome.{Res, IsOk, mapRes}
 use Rattle.grammar.specs.Index.{Said, IsText}
 use Rattle.grammar.specs.IndexCues.{Cue, cuesOf}
-use Rattle.grammar.specs.Reading.{Wanted, Reading, IsReading, Shown, shown}
+use Rattle.grammar.specs.Reading.{wanted, Reading, IsReading, Shown, shown}
 use Rattle.control.specs.declared.Spu.{Spu}
 use Rattle.spu.specs.Unit.{unitAt}
-use Rattle.listing.specs.Lines.{shownLine}
+use Rattle.listing.specs.Lines.{refusedLine, shownLine}
 use Rattle.listing.specs.Title.{shownAt, unitFor, shownFor, lineOf, cueLine, headLine, listedCues}
 use Rattle.listing.specs.declared.Head.{Head}
 
@@ -70,13 +70,13 @@ tableOf (z ∷ starts) [] (suc k) = []
 tableOf (z ∷ starts) (p ∷ positions) (suc k) = record { start = z; position = p } ∷ tableOf starts positions k
 
 -- ---- What a cue's line says in the grammar's words
-abbrev pub wanted : ℕ → Wanted
-wanted n = record { cue = n }
-
--- of a text with these cues: a line that is not refused exactly where there is a reading, and then with the values of every reading
+-- of a text with these cues: a line that is not refused exactly where there is a reading, and then with the values of every reading; where there
+-- is none, a line that says so
 pub record Exactly (cs : List Cue) (f : List ℕ) (n : ℕ) (l l′ : List ℕ) : Type 0 where
   pub exactly-when : (text : List ℕ) (ls : List Said) → IsText text ls → cuesOf ls ≡ cs → IsOk (shownFor cs f n) ↔ ((x : Reading) × IsReading text f (wanted n) x)
   pub same : (text : List ℕ) (x : Reading) → cuesOf (x .lines) ≡ cs → IsReading text f (wanted n) x → l′ ≡ sets l 0 (shownLine n (shown x))
+  pub refused : (text : List ℕ) (ls : List Said) → IsText text ls → cuesOf ls ≡ cs → ((x : Reading) → IsReading text f (wanted n) x → ⊥)
+      → (k : ℕ) × (l′ ≡ sets l 0 (refusedLine n k))
 
 -- ---- The first line of a title: its length, the number of cues, the table that they are in, and what the buffers hold
 pub record Headed (there : Bool) (text file : List ℕ) (starts : List ℤ) (positions l : List ℕ) (r : Head) (starts′ : List ℤ) (positions′ l′ : List ℕ) : Type 0 where

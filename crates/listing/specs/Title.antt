@@ -3,7 +3,7 @@
 use Prim.Native.Nat.{ℕ, zero, suc, _^_}
 use mathlib.Core.Bool.{Bool, cond, _&&_}
 use mathlib.Core.Option.{Option}
-use mathlib.Core.List.{List, [], _∷_}
+use mathlib.Core.List.{List, [], _++_}
 use lib.Dec.{leb}
 use lib.IntN.{ℤ}
 use lib.ListN.{length}
@@ -77,3 +77,12 @@ headLine there text file = cond (readable there text file) (indexed (cuesIn text
 
 abbrev pub listedCues : Bool → List ℕ → List ℕ → List Cue
 listedCues there text file = cond (readable there text file) (listed (cuesIn text)) []
+
+-- the lines of k cues from cue n on
+unfoldable pub cueLines : List Cue → List ℕ → ℕ → ℕ → List ℕ
+cueLines cs f n zero = []
+cueLines cs f n (suc k) = cueLine cs f n ++ cueLines cs f (suc n) k
+
+-- all that is written of a title (FORMAT 8.2, 8.3)
+unfoldable pub titleLines : Bool → List ℕ → List ℕ → List ℕ
+titleLines there text file = headLine there text file ++ cueLines (listedCues there text file) file 0 (length (listedCues there text file))

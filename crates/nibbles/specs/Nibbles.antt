@@ -4,14 +4,20 @@ use mathlib.Core.Bool.{cond}
 use mathlib.Core.List.{List}
 use lib.Dec.{ltb}
 use lib.ListN.{length}
+use Rattle.outcome.specs.Outcome.{Res, ok, refuse, check, field-ran-out}
 use Rattle.grammar.specs.Bytes.{nibble}
 use Rattle.grammar.specs.Rows.{align}
 use Rattle.nibbles.specs.declared.Nibble.{Nibble}
-use Rattle.nibbles.specs.declared.Nibble.the-variants.{Is, RanOut}
+use Rattle.nibbles.specs.declared.Nibble.the-variants.{Is, Refused}
 
--- the nibble at half byte p, or that the field ran out (FORMAT 5.1)
-abbrev pub nibbleAt : List ℕ → ℕ → Nibble
-nibbleAt s p = cond (ltb p (2 * length s)) (Is (nibble s p)) RanOut
+-- the nibble at half byte p (FORMAT 5.1), or refusal 26 where the field ran out
+abbrev pub nibbleAt : List ℕ → ℕ → Res ℕ
+nibbleAt s p = check (ltb p (2 * length s)) field-ran-out (ok (nibble s p))
+
+-- what the answer of a read means
+abbrev pub nibbleAnswer : Res ℕ → Nibble
+nibbleAnswer (ok n) = Is n
+nibbleAnswer (refuse n) = Refused n
 
 -- the count after a read at p: where the field ran out it stays
 abbrev pub pastNibble : List ℕ → ℕ → ℕ

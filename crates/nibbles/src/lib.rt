@@ -1,20 +1,15 @@
 // A reader of a field's nibbles: the field and a half-byte count, as the original has it (docs/FORMAT.md, section 5).
 // Each function over the reader is thin over one that takes the field and the count, which is covered; it is proved by a walk of its MIR.
-use codes::CodeAnswer;
-use codes::Cursor;
 use outcome::FIELD_RAN_OUT;
 ghost use mathlib.Core.Path.{_≡_};
-ghost use lib.ListN.{length};
-ghost use Rattle.codes.specs.Codes.{codeAt};
-ghost use Rattle.codes.specs.Answers.{codeAnswer};
-ghost use Rattle.nibbles.specs.Nibbles.{nibbleAt, pastNibble, onByte};
+ghost use Rattle.nibbles.specs.Nibbles.{nibbleAt, nibbleAnswer, pastNibble, onByte};
 
 // What reading a nibble finds.
 pub enum Nibble {
     // The nibble, 0 to 15.
     Is(u8),
-    // The field ends before it.
-    RanOut,
+    // The number of the refusal.
+    Refused(u8),
 }
 
 pub struct NibbleReader<'a> {
@@ -23,13 +18,14 @@ pub struct NibbleReader<'a> {
     pub pos: usize,
 }
 
-// The nibble at half byte pos.
+// The nibble at half byte pos, or 26 where the field ran out.
+// Ruled out: a nibble past the field's end; another refusal than 26.
 pub fn nibble_at(field: &[u8], pos: usize) -> Nibble
-    ensures { λ r. ⌜ r ≡ nibbleAt (now (field .entry)) pos ⌝ }
+    ensures { λ r. ⌜ r ≡ nibbleAnswer (nibbleAt (now (field .entry)) pos) ⌝ }
 {
     let i = pos / 2;
     if field.len() <= i {
-        return Nibble::RanOut;
+        return Nibble::Refused(FIELD_RAN_OUT);
     }
     if pos % 2 == 0 {
         return Nibble::Is(field[i] / 16);
@@ -38,6 +34,7 @@ pub fn nibble_at(field: &[u8], pos: usize) -> Nibble
 }
 
 // The count after a read at pos: the next one where there is a nibble, and pos itself where the field ran out.
+// Ruled out: a count that goes on where nothing was read; a count that stays where a nibble was.
 pub fn past_nibble(field: &[u8], pos: usize) -> usize
     ensures { λ r. ⌜ r ≡ pastNibble (now (field .entry)) pos ⌝ }
 {
@@ -48,6 +45,7 @@ pub fn past_nibble(field: &[u8], pos: usize) -> usize
 }
 
 // The first count from pos on that starts a byte; a count past the end stays.
+// Ruled out: an even count moved; a count past the end moved.
 pub fn on_byte(field: &[u8], pos: usize) -> usize
     ensures { λ r. ⌜ r ≡ onByte (now (field .entry)) pos ⌝ }
 {
@@ -59,6 +57,7 @@ pub fn on_byte(field: &[u8], pos: usize) -> usize
 
 impl<'a> NibbleReader<'a> {
     // A reader at the field's first nibble.
+    // Ruled out: a reader that starts at another count; one over a part of the field.
     pub fn new(buf: &'a [u8]) -> NibbleReader<'a>
         ensures { λ r. ⌜ (r .buf ≡ buf .entry) × (r .pos ≡ 0) ⌝ }
     {
@@ -66,8 +65,9 @@ impl<'a> NibbleReader<'a> {
     }
 
     // The next nibble, and the count goes on; or the field ran out, and the count stays.
+    // Ruled out: the low half of a byte first; a count that goes on past the field's end.
     pub fn read(&mut self) -> Nibble
-        ensures { λ n. ⌜ (n ≡ nibbleAt (now (now (self .entry) .buf)) (now (self .entry) .pos)) × (now (self .exit) .buf ≡ now (self .entry) .buf) × (now (self .exit) .pos ≡ pastNibble (now (now (self .entry) .buf)) (now (self .entry) .pos)) ⌝ }
+        ensures { λ n. ⌜ (n ≡ nibbleAnswer (nibbleAt (now (now (self .entry) .buf)) (now (self .entry) .pos))) × (now (self .exit) .buf ≡ now (self .entry) .buf) × (now (self .exit) .pos ≡ pastNibble (now (now (self .entry) .buf)) (now (self .entry) .pos)) ⌝ }
     {
         let buf = self.buf;
         let pos = self.pos;
@@ -77,6 +77,7 @@ impl<'a> NibbleReader<'a> {
     }
 
     // An odd count goes to the next even one.
+    // Ruled out: another field left in the reader; a whole byte skipped at an even count.
     pub fn align(&mut self)
         ensures { λ _. ⌜ (now (self .exit) .buf ≡ now (self .entry) .buf) × (now (self .exit) .pos ≡ onByte (now (now (self .entry) .buf)) (now (self .entry) .pos)) ⌝ }
     {
@@ -85,47 +86,21 @@ impl<'a> NibbleReader<'a> {
 }
 
 // The nibble at half byte pos, read through a reader. A caller needs no walk: its parameters are plain.
+// Ruled out: the first nibble whatever pos is; the nibble after pos.
 pub fn read_through(field: &[u8], pos: usize) -> Nibble
-    ensures { λ r. ⌜ r ≡ nibbleAt (now (field .entry)) pos ⌝ }
+    ensures { λ r. ⌜ r ≡ nibbleAnswer (nibbleAt (now (field .entry)) pos) ⌝ }
 {
-    let mut reader = NibbleReader { buf: field, pos };
+    let mut reader = NibbleReader::new(field);
+    reader.pos = pos;
     reader.read()
 }
 
-// The code at a place, each nibble read through a reader: the same answer as `codes::read_code`, on every input.
-pub fn read_code_through(field: &[u8], pos: usize) -> CodeAnswer
-    ensures { λ r. ⌜ r ≡ codeAnswer (codeAt (now (field .entry)) (length (now (field .entry))) pos) ⌝ }
+// The count to which a reader at half byte pos aligns, in the same way.
+// Ruled out: the count after a read; pos whatever it is.
+pub fn align_through(field: &[u8], pos: usize) -> usize
+    ensures { λ r. ⌜ r ≡ onByte (now (field .entry)) pos ⌝ }
 {
-    let mut value: usize = 0;
-    let mut size: usize = 0;
-    // 4 to the power of size: what a code of so many nibbles makes at least
-    let mut least: usize = 1;
-    while size < 4 {
-        match read_through(field, pos + size) {
-            Nibble::RanOut => {
-                return CodeAnswer::Refused(FIELD_RAN_OUT);
-            }
-            Nibble::Is(n) => {
-                value = value * 16 + n as usize;
-            }
-        }
-        size += 1;
-        least *= 4;
-        let end = pos + size;
-        if least <= value {
-            return CodeAnswer::Got {
-                size,
-                value,
-                next: Cursor { pos: end },
-            };
-        }
-        if size == 4 {
-            return CodeAnswer::Got {
-                size,
-                value,
-                next: Cursor { pos: end },
-            };
-        }
-    }
-    CodeAnswer::Refused(FIELD_RAN_OUT)
+    let mut reader = NibbleReader { buf: field, pos };
+    reader.align();
+    reader.pos
 }

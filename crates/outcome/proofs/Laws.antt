@@ -5,12 +5,13 @@ use native.Mathlib.Omega.{arith}
 use mathlib.Core.Path.{_≡_, refl, sym, ap, _∙_}
 use mathlib.Core.Bool.{Bool, true, false, not, _&&_}
 use mathlib.Core.Logic.{_⊎_, inl, inr}
+use mathlib.Core.Option.{Option, some, none}
 use mathlib.Core.List.{List, [], _∷_, _++_}
 use lib.Dec.{leb}
 use lib.ListN.{length, getD, set, take, drop}
 use lib.Seq.{sets, slice, take-nil, take-suc, take-all, length-take-le, length-sets}
 use borrow.Author.Tests.{leb-true, leb-false}
-use Rattle.outcome.specs.Outcome.{Res, ok, refuse, check, andThen, consRes, mapRes}
+use Rattle.outcome.specs.Outcome.{Res, ok, refuse, check, need, andThen, consRes, mapRes}
 
 pub ok-not-refuse : {A : Type 0} {P : Type 0} {n : ℕ} {a : A} → refuse n ≡ ok a → P
 ok-not-refuse e = absurd (let z : _≡_ {A = ℕ} 0 1 = cc in omega arith)
@@ -28,6 +29,10 @@ andThen-ok (refuse n) k e = ok-not-refuse e
 pub consRes-ok : {A : Type 0} (a : A) (r : Res (List A)) {l : List A} → consRes a r ≡ ok l → (t : List A) × (r ≡ ok t) × (a ∷ t ≡ l)
 consRes-ok a (ok t) e = (t, refl, ok-injective e)
 consRes-ok a (refuse n) e = ok-not-refuse e
+
+pub need-some : {A : Type 0} (n : ℕ) (o : Option A) {a : A} → need n o ≡ ok a → o ≡ some a
+need-some n (some x) e = ap some (ok-injective e)
+need-some n none e = ok-not-refuse e
 
 -- a test that is or is not
 pub either : (t : Bool) → (t ≡ true) ⊎ (t ≡ false)

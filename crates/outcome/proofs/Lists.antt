@@ -6,8 +6,8 @@ use mathlib.Core.Bool.{Bool, true, false, cond}
 use mathlib.Core.Logic.{_↔_, ⊎-elim}
 use mathlib.Core.List.{List, [], _∷_}
 use lib.ListN.{length}
-use Rattle.outcome.specs.Outcome.{Res, ok, refuse, andThen, consRes}
-use Rattle.outcome.specs.Lists.{listFuel, listFrom, Listed}
+use Rattle.outcome.specs.Outcome.{Res, ok, refuse, andThen, consRes, listedBy}
+use Rattle.outcome.specs.Lists.{listFuel, listFrom, readFuel, readFrom, Listed}
 use Rattle.outcome.proofs.Laws.{ok-not-refuse, ok-injective, andThen-ok, consRes-ok, andThen-refuse, consRes-refuse}
 
 module _ {S A : Type 0} (stop : S → Bool) (item : S → Res A) (next : S → A → S) where
@@ -89,3 +89,35 @@ module _ {S A : Type 0} (stop : S → Bool) (item : S → Res A) (next : S → A
         go true r p q = refl
         go false (refuse n) p q = refl
         go false (ok a) p q = let z = falls s a p q in ap (consRes a) (fuel-enough (left s) (suc (left (next s a))) (next s a) (omega arith) (omega arith))
+
+    -- the same of the items that are read, the refused list's too
+    read-enough : (f g : ℕ) (s : S) → left s < f → left s < g → readFuel stop item next f s ≡ readFuel stop item next g s
+    unfolding readFuel
+    read-enough zero g s h k = absurd (omega arith)
+    read-enough (suc f) zero s h k = absurd (omega arith)
+    read-enough (suc f) (suc g) s h k = go (λ x p q. read-enough f g (next s x) p q) (stop s) (item s) refl refl
+      where
+        go : ((x : A) → left (next s x) < f → left (next s x) < g → readFuel stop item next f (next s x) ≡ readFuel stop item next g (next s x))
+            → (b : Bool) (r : Res A) → stop s ≡ b → item s ≡ r
+            → cond b [] (listedBy r (λ a. a ∷ readFuel stop item next f (next s a)))
+            ≡ cond b [] (listedBy r (λ a. a ∷ readFuel stop item next g (next s a)))
+        go i true r p q = refl
+        go i false (refuse n) p q = refl
+        go i false (ok a) p q = let z = falls s a p q in ap (λ (l : List A). a ∷ l) (i a (omega arith) (omega arith))
+
+    pub read-step : (s : S) → readFrom stop item next left s ≡ cond (stop s) [] (listedBy (item s) (λ a. a ∷ readFrom stop item next left (next s a)))
+    unfolding readFrom readFuel
+    read-step s = go (stop s) (item s) refl refl
+      where
+        go : (b : Bool) (r : Res A) → stop s ≡ b → item s ≡ r
+            → cond b [] (listedBy r (λ a. a ∷ readFuel stop item next (left s) (next s a)))
+            ≡ cond b [] (listedBy r (λ a. a ∷ readFuel stop item next (suc (left (next s a))) (next s a)))
+        go true r p q = refl
+        go false (refuse n) p q = refl
+        go false (ok a) p q = let z = falls s a p q in ap (λ (l : List A). a ∷ l) (read-enough (left s) (suc (left (next s a))) (next s a) (omega arith) (omega arith))
+
+    -- of a list that is found all items are read
+    pub read-all : (s : S) (l : List A) → Listed stop item next s l → readFrom stop item next left s ≡ l
+    unfolding Listed
+    read-all s [] h = rw (read-step s, h)
+    read-all s (a ∷ l) h = rw (read-step s, h .0, h .1) (ap (λ (m : List A). a ∷ m) (read-all (next s a) l (h .2)))

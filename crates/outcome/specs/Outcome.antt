@@ -1,6 +1,7 @@
 -- What a definition of the reader answers: a value, or the number of a refusal in the table of docs/FORMAT.md.
 -- Assumes nothing: these are definitions.
-use Prim.Native.Nat.{ℕ}
+use Prim.Native.Nat.{ℕ, _≤_}
+use mathlib.Core.Path.{_≡_}
 use mathlib.Core.Bool.{Bool, cond}
 use mathlib.Core.Option.{Option, some, none}
 use mathlib.Core.List.{List, [], _∷_}
@@ -126,6 +127,11 @@ abbrev pub listed : {A : Type 0} → Res (List A) → List A
 listed (ok l) = l
 listed (refuse n) = []
 
+-- the list k of what was found; nothing, where it was refused
+abbrev pub listedBy : {A B : Type 0} → Res A → (A → List B) → List B
+listedBy (ok a) k = k a
+listedBy (refuse n) k = []
+
 -- f of what was found
 abbrev pub mapRes : {A B : Type 0} → (A → B) → Res A → Res B
 mapRes f (ok a) = ok (f a)
@@ -135,3 +141,21 @@ mapRes f (refuse n) = refuse n
 abbrev pub IsOk : {A : Type 0} → Res A → Type 0
 IsOk (ok a) = Unit {0}
 IsOk (refuse n) = ⊥
+
+-- the number of the refusal, 0 where there is none
+abbrev pub refusalOf : {A : Type 0} → Res A → ℕ
+refusalOf (ok a) = 0
+refusalOf (refuse n) = n
+
+-- a number of the table of refusals (FORMAT 9); a refusal with one
+abbrev pub InTable : ℕ → Type 0
+InTable n = (1 ≤ n) × (n ≤ 31)
+
+abbrev pub Numbered : {A : Type 0} → Res A → Type 0
+Numbered (ok a) = Unit {0}
+Numbered (refuse n) = InTable n
+
+-- the number r that is returned for x is none outside the table, and is 0 only where x is not refused
+pub record Returned {A : Type 0} (x : Res A) (r : ℕ) : Type 0 where
+  pub in-table : r ≤ 31
+  pub accepted : r ≡ 0 → IsOk x

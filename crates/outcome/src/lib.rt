@@ -97,6 +97,7 @@ pub const LONG_UNIT: u8 = 30;
 pub const SHORT_OUTPUT: u8 = 31;
 
 // The lesser of two numbers.
+// Ruled out: the greater of the two; the first whatever the second is.
 pub fn lesser(a: usize, b: usize) -> usize
     ensures { λ r. ⌜ r ≡ min a b ⌝ }
 {
@@ -104,6 +105,7 @@ pub fn lesser(a: usize, b: usize) -> usize
 }
 
 // The number that two bytes make, the high one first.
+// Ruled out: the low byte first; the two bytes added.
 pub fn word_of(a: u8, b: u8) -> usize
     ensures { λ r. ⌜ r ≡ a * 256 + b ⌝ }
 {

@@ -192,6 +192,7 @@ fn private_stream(file: &[u8], at: usize, size: usize) -> PacketAnswer
 }
 
 // The packet at a place.
+// Ruled out: a packet that ends past the file; a body without a subpicture's id kept.
 pub fn read_packet(file: &[u8], at: usize) -> PacketAnswer
     ensures { λ r. ⌜ r ≡ packetGiven (packetAt subpicture (now (file .entry)) at) ⌝ }
 {

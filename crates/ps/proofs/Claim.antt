@@ -9,7 +9,8 @@ use lib.ListN.{length, take, drop}
 use lib.Seq.{sets, sets-eq, length-slice, take-at}
 use lib.Dec.{leb, ltb}
 use borrow.Author.Tests.{leb-true, le-leb}
-use Rattle.outcome.specs.Outcome.{Res, ok, refuse, mapRes, past-file, no-unit, short-scratch}
+use Rattle.outcome.proofs.Numbers.{in-table}
+use Rattle.outcome.specs.Outcome.{Res, ok, refuse, mapRes, past-file, no-unit, short-scratch, InTable, Numbered}
 use Rattle.outcome.proofs.Laws.{ok-not-refuse, ok-injective, check-ok, check-refuse, andThen-ok, andThen-refuse, mapRes-refuse, part-slice}
 use Rattle.outcome.proofs.Lists.{list-refuses}
 use Rattle.grammar.specs.Bytes.{word}
@@ -92,3 +93,12 @@ module _ (f : List ℕ) (p : ℕ) where
               inr
               (inl
               (list-refuses (standDone subpicture) (standPacket subpicture f) (standNext subpicture) (λ (s : Stand subpicture). length f - s .place) (packet-falls subpicture f) (λ (m : ℕ). m ≡ no-unit) (λ s m r. packet-refuses f (s .place) m r) (stand subpicture p []) k (mapRes-refuse packets (packetsAt subpicture f p []) g)))
+
+  pub unit-numbered : (n : ℕ) → Numbered (unitAt subpicture f p n)
+  unit-numbered n = go (unitAt subpicture f p n) refl
+    where
+      go : (x : Res Form) → unitAt subpicture f p n ≡ x → Numbered x
+      go (ok m) q = tt
+      go (refuse k) q =
+          ⊎-elim (λ z. subst InTable (sym z) (in-table past-file refl refl))
+          (⊎-elim (λ z. subst InTable (sym z) (in-table no-unit refl refl)) (λ z. subst InTable (sym z) (in-table short-scratch refl refl))) (unit-refuses n k q)

@@ -1,7 +1,7 @@
 -- The unit at a place, as the code answers it. Assumes nothing.
 use Prim.Native.Nat.{ℕ, _+_, _-_, _≤_, _<_}
 use native.Mathlib.Omega.{arith}
-use mathlib.Core.Path.{_≡_, refl, sym, ap, _∙_}
+use mathlib.Core.Path.{_≡_, refl, sym, ap, _∙_, subst}
 use mathlib.Core.Bool.{true, false, cond}
 use mathlib.Core.Logic.{⊎-elim}
 use mathlib.Core.List.{List, []}
@@ -20,6 +20,10 @@ use Rattle.ps.specs.declared.JoinedAnswer.the-variants as joined-answer
 use Rattle.ps.specs.declared.UnitAnswer.{UnitAnswer}
 use Rattle.ps.specs.declared.UnitAnswer.the-variants as unit-answer
 use Rattle.ps.proofs.Laws.{bare-sound}
+
+-- an answer under another name
+pub named : {f : List ℕ} {p : ℕ} {s s′ : List ℕ} {r t : UnitAnswer} → r ≡ t → Extracted f p s r s′ → Extracted f p s t s′
+named {f} {p} {s} {s′} q d = subst (λ (x : UnitAnswer). Extracted f p s x s′) q d
 
 -- ---- A part, clipped
 

@@ -9,7 +9,8 @@ use mathlib.Core.List.{List, [], _∷_}
 use lib.ListN.{length}
 use lib.Dec.{leb}
 use borrow.Author.Tests.{le-leb, lt-leb}
-use Rattle.outcome.specs.Outcome.{Res, ok, refuse, consRes, listed, short-pixels, field-ran-out}
+use Rattle.outcome.proofs.Numbers.{in-table, check-numbered, only-numbered}
+use Rattle.outcome.specs.Outcome.{Res, ok, refuse, consRes, listed, short-pixels, field-ran-out, Numbered}
 use Rattle.outcome.proofs.Laws.{ok-not-refuse, andThen-refuse, consRes-refuse, check-refuse, le-or-lt}
 use Rattle.outcome.proofs.Lists.{list-refuses}
 use Rattle.grammar.specs.Bytes.{nibbles}
@@ -65,6 +66,14 @@ field-refuses u e w (suc n) p k q =
     ⊎-elim (λ f. row-refuses u e w p k f)
     (λ f. field-refuses u e w n (align (afterCodes p (f .0))) k (consRes-refuse (f .0) (fieldAt u e w n (align (afterCodes p (f .0)))) (f .2)))
     (andThen-refuse (rowAt u e w p) (λ r. consRes r (fieldAt u e w n (align (afterCodes p r)))) q)
+
+pub field-numbered : (u : List ℕ) (e w n p : ℕ) → Numbered (fieldAt u e w n p)
+field-numbered u e w n p = only-numbered field-ran-out (in-table field-ran-out refl refl) (fieldAt u e w n p) (field-refuses u e w n p)
+
+pub decoded-numbered : (s : List ℕ) (w h start : ℕ) (px : List ℕ) → Numbered (decoded s w h start px)
+unfolding decoded
+decoded-numbered s w h start px =
+    check-numbered (leb (w * h) (length px)) short-pixels _ (in-table short-pixels refl refl) (field-numbered s (length s) w (rowsFrom start h) 0)
 
 -- ---- The claim
 

@@ -7,10 +7,10 @@ use mathlib.Core.Path.{_≡_, refl, sym, ap, _∙_, subst}
 use mathlib.Core.List.{List, [], _∷_, _++_, append-nil}
 use lib.ListN.{length, set, replicate, take, drop, getD, length-append, length-replicate, drop-of-length-le}
 use lib.Seq.{sets, sets-eq, length-sets, length-take-le, take-at, drop-cons, getD-take}
-use Rattle.outcome.specs.Outcome.{Res, ok, refuse, consRes, listed, IsOk}
+use Rattle.outcome.specs.Outcome.{Res, ok, refuse, listed, listedBy, IsOk}
 use Rattle.grammar.specs.Rows.{Code, code, colour, paints, RowCodes, afterCodes, align, FieldRows}
 use Rattle.grammar.specs.Pixels.{rowPixels}
-use Rattle.codes.specs.Codes.{rowAt, fieldAt}
+use Rattle.codes.specs.Codes.{codeAt, rowAt, rowRead, fieldAt, fieldRead}
 use Rattle.rle.specs.Field.{paintField}
 use Rattle.rle.specs.Kept.{widest, keptRun, keptRow, keptAll, leftAfter, placeAfter, paintKept, KeptFits}
 use Rattle.rle.specs.Answers.{rowCounts, fieldCounts, fieldAnswer}
@@ -18,29 +18,30 @@ use Rattle.rle.specs.Answers.{partRows, Ready, Counted}
 use Rattle.codes.specs.declared.Cursor.{Cursor}
 use Rattle.rle.specs.declared.Counts.{Counts}
 use Rattle.rle.specs.declared.FieldAnswer.the-variants as field-answer
-use Rattle.codes.proofs.Laws.{paints-le, row-none, field-iff}
+use Rattle.grammar.proofs.Lengths.{paints-le}
+use Rattle.codes.proofs.Laws.{row-none, field-iff, read-step, read-row, read-field}
 use Rattle.outcome.proofs.Laws.{sets-append}
 use Rattle.codes.proofs.Turns.{Coded}
-use Rattle.rle.proofs.Turns.{Rowed, row-turn, field-turn, blank, fielded}
+use Rattle.rle.proofs.Turns.{Rowed, blank, fielded}
 
 -- ---- Keeping
 
 -- a turn of keeping a row's codes
-pub keep-more : (u : List ℕ) (e left p : ℕ) (h : 0 < left) (k v m : ℕ) (x : Cursor) → Coded u e p k v x → m ≡ paints left (code p k v) → IsOk (rowAt u e left p)
+pub keep-more : (u : List ℕ) (e left p : ℕ) (h : 0 < left) (k v m : ℕ) (x : Cursor) → Coded u e p k v x → m ≡ paints left (code p k v)
     → (ks ks′ : List ℕ) (i : ℕ) → ks′ ≡ set ks i (keptRun m (v % 4))
-    → sets ks′ (i + 1) (keptRow (left - m) (listed (rowAt u e (left - m) (x .pos)))) ≡ sets ks i (keptRow left (listed (rowAt u e left p)))
+    → sets ks′ (i + 1) (keptRow (left - m) (rowRead u e (left - m) (x .pos))) ≡ sets ks i (keptRow left (rowRead u e left p))
 unfolding keptRow
-keep-more u e left p h k v m x g q y ks ks′ i f =
-    rw (row-turn u e left p h k v m x g q, f, add-one) (go (rowAt u e (left - m) (x .pos)) (rw (row-turn u e left p h k v m x g q) at y))
-  where
-    go : (r : Res (List Code)) → IsOk (consRes (code p k v) r)
-        → sets (set ks i (keptRun m (v % 4))) (suc i) (keptRow (left - m) (listed r)) ≡ sets ks i (keptRow left (listed (consRes (code p k v) r)))
-    go (refuse n) f = absurd f
-    go (ok cs) f = λ j. sets (set ks i (keptRun (q j) (v % 4))) (suc i) (keptRow (left - q j) cs)
+keep-more u e left p h k v m x g q ks ks′ i f =
+    rw (read-step u e left p h, g .here, sym q, f, add-one, g .goes)
 
-pub keep-end : (u : List ℕ) (e left p : ℕ) (ks : List ℕ) (i : ℕ) → left ≡ 0 → ks ≡ sets ks i (keptRow left (listed (rowAt u e left p)))
+-- it ends where the field ran out, or with the row
+pub keep-short : (u : List ℕ) (e left p n : ℕ) (ks : List ℕ) (i : ℕ) → 0 < left → codeAt u e p ≡ refuse n → ks ≡ sets ks i (keptRow left (rowRead u e left p))
 unfolding keptRow
-keep-end u e left p ks i q = rw (q, row-none)
+keep-short u e left p n ks i h q = rw (read-step u e left p h, q)
+
+pub keep-end : (u : List ℕ) (e left p : ℕ) (ks : List ℕ) (i : ℕ) → left ≡ 0 → ks ≡ sets ks i (keptRow left (rowRead u e left p))
+unfolding keptRow
+keep-end u e left p ks i q = rw (q, read-row u e 0 p [] (row-none u e p))
 
 -- the number of a row's codes, and of a field's
 codes-length : (left : ℕ) (cs : List Code) → rowCounts left cs .codes ≡ length (keptRow left cs)
@@ -53,30 +54,35 @@ unfolding fieldCounts keptAll
 kept-length w [] = refl
 kept-length w (r ∷ rs) = omega (arith, codes-length w r, kept-length w rs, length-append (keptRow w r) (keptAll w rs))
 
--- a turn of keeping a field's rows
-pub keep-rows : (u : List ℕ) (e w n p : ℕ) (h : 0 < n) (b : Counts) (x : Cursor) → Rowed u e w p b x → IsOk (fieldAt u e w n p)
-    → (ks ks′ : List ℕ) (i j at : ℕ) → ks′ ≡ sets ks i (keptRow w (listed (rowAt u e w p))) → j ≡ i + b .codes → at ≡ align (x .pos)
-    → sets ks′ j (keptAll w (listed (fieldAt u e w (n - 1) at))) ≡ sets ks i (keptAll w (listed (fieldAt u e w n p)))
-unfolding keptAll
-keep-rows u e w n p h b x g y ks ks′ i j at f q a =
-    let l : listed (rowAt u e w p) ≡ g .cs = ap listed (g .here) in
-    let z : x .pos ≡ afterCodes p (listed (rowAt u e w p)) = g .goes ∙ rw l in
-    let t = field-turn u e w n p h y (x .pos) at z a in
-    let d : i + b .codes ≡ i + length (keptRow w (listed (rowAt u e w p))) = rw (g .count, codes-length w (g .cs), l) in
-    rw (t, f, q, d) (go (fieldAt u e w (n - 1) at) (rw t at y))
+-- what is read of a field: one turn, which ends where the row is not there
+rows-turn : (u : List ℕ) (e w n p : ℕ) → 0 < n → fieldRead u e w n p ≡ rowRead u e w p ∷ listedBy (rowAt u e w p) (λ r. fieldRead u e w (n - 1) (align (afterCodes p r)))
+unfolding fieldRead
+rows-turn u e w n p h = let z : n ≡ suc (n - 1) = omega arith in go n z
   where
-    go : (r : Res (List (List Code))) → IsOk (consRes (listed (rowAt u e w p)) r)
-        → sets (sets ks i (keptRow w (listed (rowAt u e w p)))) (i + length (keptRow w (listed (rowAt u e w p)))) (keptAll w (listed r))
-        ≡ sets ks i (keptAll w (listed (consRes (listed (rowAt u e w p)) r)))
-    go (refuse k) c = absurd c
-    go (ok rs) c = sym (sets-append ks i (keptRow w (listed (rowAt u e w p))) (keptAll w rs))
+    go : (m : ℕ) → m ≡ suc (n - 1) → fieldRead u e w m p ≡ rowRead u e w p ∷ listedBy (rowAt u e w p) (λ r. fieldRead u e w (n - 1) (align (afterCodes p r)))
+    go m q = rw q
 
-pub keep-rows-end : (u : List ℕ) (e w n p : ℕ) (ks : List ℕ) (i : ℕ) → n ≡ 0 → ks ≡ sets ks i (keptAll w (listed (fieldAt u e w n p)))
-unfolding fieldAt keptAll
+-- a turn of keeping a field's rows
+pub keep-rows : (u : List ℕ) (e w n p : ℕ) (h : 0 < n) (b : Counts) (x : Cursor) → Rowed u e w p b x
+    → (ks ks′ : List ℕ) (i j at : ℕ) → ks′ ≡ sets ks i (keptRow w (rowRead u e w p)) → j ≡ i + b .codes → at ≡ align (x .pos)
+    → sets ks′ j (keptAll w (fieldRead u e w (n - 1) at)) ≡ sets ks i (keptAll w (fieldRead u e w n p))
+unfolding keptAll
+keep-rows u e w n p h b x g ks ks′ i j at f q a =
+    let d : i + b .codes ≡ i + length (keptRow w (g .cs)) = rw (g .count, codes-length w (g .cs)) in
+    rw (f, q, d, a, g .goes, rows-turn u e w n p h, read-row u e w p (g .cs) (g .here), g .here)
+    (sym (sets-append ks i (keptRow w (g .cs)) (keptAll w (fieldRead u e w (n - 1) (align (afterCodes p (g .cs)))))))
+
+pub keep-rows-short : (u : List ℕ) (e w n p k : ℕ) (ks ks′ : List ℕ) (i : ℕ) → 0 < n → rowAt u e w p ≡ refuse k → ks′ ≡ sets ks i (keptRow w (rowRead u e w p))
+    → ks′ ≡ sets ks i (keptAll w (fieldRead u e w n p))
+unfolding keptAll
+keep-rows-short u e w n p k ks ks′ i h q f = rw (rows-turn u e w n p h, q, append-nil) f
+
+pub keep-rows-end : (u : List ℕ) (e w n p : ℕ) (ks : List ℕ) (i : ℕ) → n ≡ 0 → ks ≡ sets ks i (keptAll w (fieldRead u e w n p))
+unfolding fieldRead keptAll
 keep-rows-end u e w n p ks i q = rw q
 
-pub blank-keeps : (u : List ℕ) (e w n : ℕ) (ks : List ℕ) → w ≡ 0 → ks ≡ sets ks 0 (keptAll w (listed (fieldAt u e w n 0)))
-blank-keeps u e w n ks q = rw (q, blank u e n 0 .here, blank u e n 0 .bare)
+pub blank-keeps : (u : List ℕ) (e w n : ℕ) (ks : List ℕ) → w ≡ 0 → ks ≡ sets ks 0 (keptAll w (fieldRead u e w n 0))
+blank-keeps u e w n ks q = let b = blank u e n 0 in rw (q, read-field u e 0 n 0 _ (b .here), b .bare)
 
 -- ---- Painting kept runs
 
@@ -217,19 +223,20 @@ paints-end w left to ks count k px l b =
 
 -- a field that was measured, with its codes kept
 pub ready : (s : List ℕ) (w n : ℕ) (ks ks′ : List ℕ) (b : Counts) → Counted s w n b
-    → (IsOk (partRows s w n) → ks′ ≡ sets ks 0 (keptAll w (listed (partRows s w n)))) → Ready s w n (b .codes) ks′
+    → ks′ ≡ sets ks 0 (keptAll w (fieldRead s (length s) w n 0)) → Ready s w n (b .codes) ks′
 ready s w n ks ks′ b a q =
     let i = fielded s (length s) w n 0 b a in
-    record { there = i; kept = λ f. go (partRows s w n) i a (q i) f }
+    record { there = i; kept = λ f. go (partRows s w n) refl i a f }
   where
-    go : (r : Res (List (List Code))) → IsOk r → field-answer.Rows b ≡ fieldAnswer w r → ks′ ≡ sets ks 0 (keptAll w (listed r)) → b .codes ≤ length ks′
+    go : (r : Res (List (List Code))) → partRows s w n ≡ r → IsOk r → field-answer.Rows b ≡ fieldAnswer w r → b .codes ≤ length ks′
         → take (b .codes) ks′ ≡ keptAll w (listed r)
-    go (refuse k) i a q f = absurd i
-    go (ok rs) i a q f =
+    go (refuse k) h i a f = absurd i
+    go (ok rs) h i a f =
         let z : b ≡ fieldCounts w rs = cc in
+        let q′ : ks′ ≡ sets ks 0 (keptAll w rs) = q ∙ ap (λ (l : List (List Code)). sets ks 0 (keptAll w l)) (read-field s (length s) w n 0 rs h) in
         let c : b .codes ≡ length (keptAll w rs) = ap (λ (d : Counts). d .codes) z ∙ kept-length w rs in
-        let l : length (keptAll w rs) ≤ length ks = omega (arith, ap length q, length-sets ks 0 (keptAll w rs)) in
-        rw (c, q, sets-eq (keptAll w rs) ks 0 (omega arith)) (take-at (keptAll w rs) (drop (0 + length (keptAll w rs)) ks) (length (keptAll w rs)) refl)
+        let l : length (keptAll w rs) ≤ length ks = omega (arith, ap length q′, length-sets ks 0 (keptAll w rs)) in
+        rw (c, q′, sets-eq (keptAll w rs) ks 0 (omega arith)) (take-at (keptAll w rs) (drop (0 + length (keptAll w rs)) ks) (length (keptAll w rs)) refl)
 
 -- what was kept of a whole field fits where its rows fit, and paints them
 record KeptWhole (u : List ℕ) (e w n : ℕ) : Type 0 where

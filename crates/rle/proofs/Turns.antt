@@ -14,6 +14,8 @@ use Rattle.outcome.proofs.Laws.{le-or-lt, sets-append}
 use Rattle.outcome.specs.Outcome.{Res, ok, refuse, andThen, consRes, listed, IsOk, short-pixels}
 use Rattle.grammar.specs.Rows.{Code, code, paints, RowCodes, afterCodes, align}
 use Rattle.grammar.specs.Pixels.{rowPixels}
+use Rattle.nibbles.specs.Nibbles.{onByte}
+use Rattle.nibbles.proofs.Laws.{on-byte}
 use Rattle.codes.specs.Codes.{codeAt, rowAt, fieldAt}
 use Rattle.rle.specs.Field.{rowsFrom, paintField, decoded}
 use Rattle.rle.specs.Kept.{keptRow, keptAll}
@@ -174,6 +176,10 @@ rowed u e w p b x q = go (rowAt u e w p) refl q
           few = λ a l. subst (λ (d : Counts). AtMost (afterCodes p r) (plus a d)) (sym z) (row-few u e w p r a f l);
           inside = row-inside u e w p r f;
         }
+
+-- a reader that stands after a row aligns to the next byte
+pub row-aligned : (u : List ℕ) (w p : ℕ) (b : Counts) (x : Cursor) → Rowed u (length u) w p b x → 0 < w → (r : ℕ) → r ≡ onByte u (x .pos) → r ≡ align (x .pos)
+row-aligned u w p b x g h r q = q ∙ on-byte u (x .pos) (omega (arith, g .goes, g .inside h))
 
 pub unrowed : (u : List ℕ) (e w p n : ℕ) → row-answer.Refused n ≡ rowAnswer w p (rowAt u e w p) → rowAt u e w p ≡ refuse n
 unrowed u e w p n q = go (rowAt u e w p) refl q

@@ -8,7 +8,7 @@ use lib.Seq.{sets}
 use Rattle.outcome.specs.Outcome.{Res, ok, refuse, listed, IsOk}
 use Rattle.grammar.specs.Rows.{Code, paints, afterCodes}
 use Rattle.grammar.specs.Pixels.{rowPixels}
-use Rattle.codes.specs.Codes.{rowAt, fieldAt}
+use Rattle.codes.specs.Codes.{rowAt, rowRead, fieldAt, fieldRead}
 use Rattle.rle.specs.Field.{decoded, paintField}
 use Rattle.rle.specs.Kept.{keptRow, keptAll}
 use Rattle.codes.specs.declared.Cursor.{Cursor}
@@ -62,15 +62,15 @@ plusField a (field-answer.Refused n) = field-answer.Refused n
 abbrev pub measured : List ℕ → ℕ → ℕ → FieldAnswer
 measured s w n = fieldAnswer w (fieldAt s (length s) w n 0)
 
--- what measuring a row leaves: a row that is there has its codes kept from place i on
+-- what measuring a row leaves: the codes that were read, all of them or those before the field ran out, are kept from place i on
 pub record RowMeasured (s : List ℕ) (w p i : ℕ) (ks : List ℕ) (r : RowAnswer) (ks′ : List ℕ) : Type 0 where
   pub answer : r ≡ rowAnswer w p (rowAt s (length s) w p)
-  pub keeps : IsOk (rowAt s (length s) w p) → ks′ ≡ sets ks i (keptRow w (listed (rowAt s (length s) w p)))
+  pub keeps : ks′ ≡ sets ks i (keptRow w (rowRead s (length s) w p))
 
--- what measuring a field leaves
+-- what measuring a field leaves, in the same way
 pub record FieldMeasured (s : List ℕ) (w n : ℕ) (ks : List ℕ) (r : FieldAnswer) (ks′ : List ℕ) : Type 0 where
   pub answer : r ≡ measured s w n
-  pub keeps : IsOk (fieldAt s (length s) w n 0) → ks′ ≡ sets ks 0 (keptAll w (listed (fieldAt s (length s) w n 0)))
+  pub keeps : ks′ ≡ sets ks 0 (keptAll w (fieldRead s (length s) w n 0))
 
 -- what filling a row of width w from place o on leaves
 pub record RowFilled (s : List ℕ) (w p o : ℕ) (px : List ℕ) (r : Cursor) (px′ : List ℕ) : Type 0 where

@@ -1,9 +1,9 @@
 // The rows of a picture's fields, read code by code into rows of the index map (docs/FORMAT.md, section 5).
 use codes::CodeAnswer;
 use codes::Cursor;
-use codes::aligned;
 use codes::painted;
 use codes::read_code;
+use nibbles::align_through;
 use outcome::SHORT_PIXELS;
 ghost use mathlib.Core.Path.{_≡_};
 ghost use Prim.Native.Nat.{_+_, _*_, _-_, _%_, _<_, _≤_, _^_};
@@ -40,6 +40,7 @@ pub enum FieldAnswer {
     Refused(u8),
 }
 
+// Ruled out: one of the two counts; a sum that wraps.
 pub fn plus_counts(a: Counts, b: Counts) -> Counts
     requires { ⌜ AtMost (2 ^ 64 - 1) (plus a b) ⌝ }
     ensures { λ r. ⌜ r ≡ plus a b ⌝ }
@@ -88,6 +89,7 @@ fn measure_row(field: &[u8], c: Cursor, width: usize, kept: &mut [u16], from: us
 }
 
 // A run of one colour: the one loop over pixels, which compiles to a fill.
+// Ruled out: a pixel past the run; the pixels before it changed.
 pub fn fill_run(pixels: &mut [u8], start: usize, count: usize, colour: u8)
     requires { ⌜ start + count ≤ length (now pixels) ⌝ }
     ensures { λ _. ⌜ now (pixels .exit) ≡ sets (now (pixels .entry)) start (replicate count colour) ⌝ }
@@ -123,6 +125,7 @@ fn fill_row(field: &[u8], c: Cursor, width: usize, start: usize, pixels: &mut [u
 }
 
 // The codes of a field of so many rows, counted, and kept as far as there is room.
+// Ruled out: runs of a field that ran out left unsaid; a run kept twice.
 pub fn measure_kept(field: &[u8], width: usize, rows: usize, kept: &mut [u16]) -> FieldAnswer
     ensures { λ r. ⌜ FieldMeasured (now (field .entry)) width rows (now (kept .entry)) r (now (kept .exit)) ⌝ }
 {
@@ -138,7 +141,7 @@ pub fn measure_kept(field: &[u8], width: usize, rows: usize, kept: &mut [u16]) -
         match measure_row(field, Cursor { pos }, width, kept, from) {
             RowAnswer::Row { counts: more, next } => {
                 counts = plus_counts(counts, more);
-                pos = aligned(next.pos);
+                pos = align_through(field, next.pos);
                 left -= 1;
             }
             RowAnswer::Refused(number) => {
@@ -172,7 +175,7 @@ fn fill_field(field: &[u8], width: usize, rows: usize, start: usize, pixels: &mu
     let mut to = start;
     while 0 < left {
         let next = fill_row(field, Cursor { pos }, width, to, pixels);
-        pos = aligned(next.pos);
+        pos = align_through(field, next.pos);
         to = to + width + width;
         left -= 1;
     }
@@ -224,6 +227,7 @@ fn holds(len: usize, width: usize, height: usize) -> bool
 }
 
 // A field that was measured, painted: its first row from place `start` on, each next one two rows on.
+// Ruled out: the row between painted; a row of the codes that were not kept left out.
 pub fn fill_measured(
     field: &[u8],
     width: usize,
@@ -311,6 +315,7 @@ fn decode_large(
     decode_through(field, width, rows, start, &mut kept, pixels)
 }
 
+// Ruled out: rows painted before the last is known to be whole; a count of what was kept instead of what was read.
 pub fn decode_sized(
     field: &[u8],
     width: usize,

@@ -1,11 +1,12 @@
 // Reads fields into a map whose bytes are all 238 and writes a line for each: its name, the number of codes or the refusal,
 // and the map after it in runs of equal bytes, `NxC`, with `.` for a byte that is as found.
-// A line of standard input is a row: `field` or `code`, its name, width, height, start row and the bytes of the map or the place of the
-// code, and the field.
+// A line of standard input is a row: what it asks for, its name, its numbers and the field. `field` has width, height, start row and the bytes
+// of the map; `code`, `nibble` and `align` have a place.
 use codes::CodeAnswer;
 use codes::Cursor;
 use libc::STDIN_FILENO;
 use libc::STDOUT_FILENO;
+use nibbles::Nibble;
 use rle::FieldAnswer;
 
 const FOUND: u8 = 238;
@@ -80,11 +81,10 @@ fn row(name: &[u8], field: &[u8], width: usize, height: usize, start_row: usize,
 }
 
 // The code at a place of a field.
-fn code(name: &[u8], field: &[u8], pos: usize) {
-    io::write_all(STDOUT_FILENO, name);
+fn code(field: &[u8], pos: usize) {
     match codes::read_code(field, Cursor { pos }) {
         CodeAnswer::Got { size, value, next } => {
-            io::write_all(STDOUT_FILENO, b": nibbles ");
+            io::write_all(STDOUT_FILENO, b" nibbles ");
             number(size);
             io::write_all(STDOUT_FILENO, b" value ");
             number(value);
@@ -92,11 +92,30 @@ fn code(name: &[u8], field: &[u8], pos: usize) {
             number(next.pos);
         }
         CodeAnswer::Refused(n) => {
-            io::write_all(STDOUT_FILENO, b": refused ");
+            io::write_all(STDOUT_FILENO, b" refused ");
             number(n as usize);
         }
     }
-    io::write_all(STDOUT_FILENO, b"\n");
+}
+
+// The nibble that a reader at a place reads.
+fn nibble(field: &[u8], pos: usize) {
+    match nibbles::read_through(field, pos) {
+        Nibble::Is(n) => {
+            io::write_all(STDOUT_FILENO, b" nibble ");
+            number(n as usize);
+        }
+        Nibble::Refused(n) => {
+            io::write_all(STDOUT_FILENO, b" refused ");
+            number(n as usize);
+        }
+    }
+}
+
+// The count that a reader at a place aligns to.
+fn aligned(field: &[u8], pos: usize) {
+    io::write_all(STDOUT_FILENO, b" count ");
+    number(nibbles::align_through(field, pos));
 }
 
 // Rows too wide for a run to be kept from measuring to filling.
@@ -126,21 +145,37 @@ fn is(line: &[u8], letter: u8) -> bool {
     false
 }
 
+// A row that asks for what stands at a place.
+fn placed(line: &[u8], name: &[u8], field: &[u8], pos: usize) {
+    io::write_all(STDOUT_FILENO, name);
+    io::write_all(STDOUT_FILENO, b":");
+    if is(line, b'c') {
+        code(field, pos);
+    }
+    if is(line, b'n') {
+        nibble(field, pos);
+    }
+    if is(line, b'a') {
+        aligned(field, pos);
+    }
+    io::write_all(STDOUT_FILENO, b"\n");
+}
+
 fn told(line: &[u8], field: &[u8]) {
     let name = table::part(line, b'|', 1);
     let a = given(line, 0);
-    if is(line, b'c') {
-        code(name, field, a);
+    if is(line, b'f') {
+        row(
+            name,
+            field,
+            a,
+            given(line, 1),
+            given(line, 2),
+            given(line, 3),
+        );
         return;
     }
-    row(
-        name,
-        field,
-        a,
-        given(line, 1),
-        given(line, 2),
-        given(line, 3),
-    );
+    placed(line, name, field, a);
 }
 
 fn told_front(line: &[u8], bytes: &[u8], length: usize) {

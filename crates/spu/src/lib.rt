@@ -181,7 +181,7 @@ fn store_bands(unit: &[u8], count: usize, words: &mut [u16])
 }
 
 // The rest of a unit whose control blocks tell `spu`.
-// Ruled out: words stored where the rows are refused.
+// Ruled out: words stored where the rows are refused; a map painted where the words do not fit.
 pub fn decode_told(unit: &[u8], spu: Spu, pixels: &mut [u8], words: &mut [u16]) -> SpuAnswer
     requires { ⌜ ((bs : List Block) × (controlAt (now unit) ≡ ok bs) × (spu ≡ spuOf (told bs) 0)) ⌝ }
     ensures { λ r. ⌜ Decoded (now (unit .entry)) (now (pixels .entry)) (now (words .entry)) r (now (pixels .exit)) (now (words .exit)) ⌝ }

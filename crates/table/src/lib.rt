@@ -33,6 +33,7 @@ pub fn part(s: &[u8], mark: u8, k: usize) -> &[u8]
 }
 
 // The number that decimal digits make, 0 where they make none of 64 bits.
+// Ruled out: a number of more than 64 bits cut; digits up to the first other byte.
 pub fn number(s: &[u8]) -> usize
     ensures { λ r. ⌜ r ≡ numberOf (now (s .entry)) ⌝ }
 {

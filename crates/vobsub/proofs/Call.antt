@@ -28,7 +28,8 @@ use Rattle.ps.specs.declared.UnitAnswer.the-variants as unit-answer
 use Rattle.ps.proofs.Laws.{form-iff}
 use Rattle.ps.proofs.Claim.{unit-sound, unit-there}
 use Rattle.spu.specs.Answers.{spuAnswer, unitMap, unitBands}
-use Rattle.vobsub.specs.Call.{wanted, Lent, lent, Found, found, foundFor, canvasIn, reading, readingIn}
+use Rattle.grammar.specs.Reading.{wanted}
+use Rattle.vobsub.specs.Call.{Lent, lent, Found, found, foundFor, canvasIn, reading, readingIn}
 use Rattle.vobsub.specs.Answers.{canvasStored, UnitPainted, shownOf, paintsOf, FoundPainted, shownGiven, canvasAnswer, scratchOf, pixelsOf, bandsOf, paintedOf, CuePainted}
 use Rattle.vobsub.specs.Claim.{Exactly}
 use Rattle.vobsub.proofs.Claim.{claim}
@@ -173,10 +174,6 @@ module _ (text file : List ℕ) (cue : ℕ) (s px ws cv : List ℕ) where
               ∙ ap (unitPart file (sets s 0 (formStored m)) (c .position)) g
               ∙ unit-there file (c .position) s m (i .1) (t .1) in
               painted-all m f a s′ px′ ws′ cv′ k (subst (λ (x : List ℕ). FoundPainted x c px ws cv a px′ ws′ cv′) u p)
-
--- an answer by its name
-pub named : {f : List ℕ} {p : ℕ} {s s′ : List ℕ} {r t : UnitAnswer} → r ≡ t → Extracted f p s r s′ → Extracted f p s t s′
-named {f} {p} {s} {s′} q d = subst (λ (x : UnitAnswer). Extracted f p s x s′) q d
 
 -- with the claim
 pub kept : (text file : List ℕ) (q : Wanted) (b : Lent) (r : CanvasAnswer) (b′ : Lent) → CuePainted text file q b r b′ → CuePainted text file q b r b′ × Exactly text file q b r b′

@@ -10,7 +10,8 @@ use lib.Dec.{leb}
 use lib.Seq.{sets}
 use borrow.Author.Tests.{leb-true, le-leb}
 use Rattle.outcome.specs.Outcome.{Res, ok, refuse, need, andThen, mapRes, no-cue, short-pixels, short-words, short-canvas}
-use Rattle.outcome.proofs.Laws.{ok-injective, ok-not-refuse, andThen-ok, check-ok, mapRes-ok}
+use Rattle.grammar.proofs.Lengths.{reading-map, reading-canvas}
+use Rattle.outcome.proofs.Laws.{andThen-ok, check-ok, mapRes-ok, need-some}
 use Rattle.grammar.specs.Index.{Said, IsText}
 use Rattle.grammar.specs.IndexCues.{Cue, cuesOf, cueAt}
 use Rattle.grammar.specs.Packets.{Form, IsForm, unitOf, scratchFor}
@@ -33,10 +34,6 @@ use Rattle.vobsub.specs.Answers.{shownGiven, canvasAnswer, scratchOf, pi
 use Rattle.vobsub.specs.Claim.{Gives, Room, Equal, Exactly}
 use Rattle.vobsub.specs.declared.CanvasAnswer.{CanvasAnswer}
 use Rattle.vobsub.specs.declared.CanvasAnswer.the-variants as canvas-answer
-
-need-some : {A : Type 0} (n : ℕ) (o : Option A) {a : A} → need n o ≡ ok a → o ≡ some a
-need-some n (some x) e = ap some (ok-injective e)
-need-some n none e = ok-not-refuse e
 
 -- a unit is found within lent lengths exactly where it is found and they are long enough
 canvas-sound : (u : List ℕ) (n m k : ℕ) (l : ListedUnit) → canvasIn u n m k ≡ ok l
@@ -150,8 +147,9 @@ module _ (text file : List ℕ) (q : Wanted) where
     gives x e = subst Gives (sym (d .answer ∙ ap canvasAnswer e)) tt
 
     equal : (x : Reading) → readingIn text file q b ≡ ok x → Equal x b r b′
-    unfolding readingIn shownGiven
+    unfolding readingIn shown shownGiven
     equal x e =
+        let h = sound b x e .0 in
         let a = andThen-ok (foundFor text file q (length (b .scratch))) _ e in
         let w = mapRes-ok (reading q (a .0)) (canvasIn (unitOf (a .0 .form)) (length (b .pixels)) (length (b .words)) (length (b .canvas))) (a .2) in
         let f : a .0 .form ≡ x .form = ap (λ (y : Reading). y .form) (w .2) in
@@ -172,6 +170,8 @@ module _ (text file : List ℕ) (q : Wanted) where
           in-pixels = d .in-pixels ∙ ap (λ (y : Res Reading). sets (b .pixels) 0 (pixelsOf y)) e;
           in-words = d .in-words ∙ ap (λ (y : Res Reading). sets (b .words) 0 (bandsOf y)) e;
           in-canvas = d .in-canvas ∙ ap (λ (y : Res Reading). sets (b .canvas) 0 (paintedOf y)) e;
+          map-long = reading-map text file q x h;
+          canvas-long = reading-canvas text file q x h;
         }
 
     left : (o : Res Reading) → readingIn text file q b ≡ o → (Gives r → ⊥) → (b′ .pixels ≡ b .pixels) × (b′ .words ≡ b .words) × (b′ .canvas ≡ b .canvas)

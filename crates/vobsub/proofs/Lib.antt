@@ -3,3 +3,4 @@ pub mod Listed
 pub mod Turns
 pub mod Claim
 pub mod Call
+pub mod Numbers

@@ -15,7 +15,7 @@ use Rattle.grammar.specs.Pixels.{rowPixels, indexMap}
 use Rattle.grammar.specs.Canvas.{orOwn, ownLook, toldLook, lineBytes, canvasBytes}
 use Rattle.look.specs.Look.{Counted}
 use Rattle.look.proofs.Look.{look-listed, bands-counted, counted-join}
-use Rattle.fields.proofs.Weave.{row-length}
+use Rattle.grammar.proofs.Lengths.{row-length, map-length}
 use Rattle.vobsub.specs.Paint.{wordLook, mapCanvas}
 
 -- ---- Every band that is told has as many entries as its header says
@@ -69,19 +69,11 @@ map-canvas palette look x y w (r ∷ rs) rest =
     ∙ ap (λ (m : List ℕ). lineBytes palette look x y (rowPixels w r) ++ mapCanvas palette look x (y + 1) w (length rs) m) (drop-at (rowPixels w r) (indexMap w rs ++ rest) w n)
     ∙ ap (λ (m : List ℕ). lineBytes palette look x y (rowPixels w r) ++ m) (map-canvas palette look x (y + 1) w rs rest)
 
-length-map : (w : ℕ) (rs : List (List Code)) → length (indexMap w rs) ≡ length rs * w
-unfolding indexMap
-length-map w [] = omega arith
-length-map w (r ∷ rs) = let n = row-length w r in let m = length-map w rs in length-both (rowPixels w r) (indexMap w rs) n m
-  where
-    length-both : (a b : List ℕ) → length a ≡ w → length b ≡ length rs * w → length (a ++ b) ≡ suc (length rs) * w
-    length-both a b e f = lib.ListN.length-append a b ∙ omega (arith, e, f)
-
 -- a map in the front of a buffer, painted
 pub stored-canvas : (palette : List ℕ) (look : ℕ → ℕ → Look) (x y w h : ℕ) (rs : List (List Code)) (px : List ℕ) → length rs ≡ h → w * h ≤ length px
     → mapCanvas palette look x y w h (sets px 0 (indexMap w rs)) ≡ canvasBytes palette look x y (map (rowPixels w) rs)
 stored-canvas palette look x y w h rs px q k =
-    let n = length-map w rs in
+    let n = map-length w rs in
     let l : 0 + length (indexMap w rs) ≤ length px = rw n (rw q (omega (arith, k))) in
     ap (mapCanvas palette look x y w h) (sets-eq (indexMap w rs) px 0 l)
     ∙ ap (λ (m : ℕ). mapCanvas palette look x y w m (indexMap w rs ++ drop (0 + length (indexMap w rs)) px)) (sym q)

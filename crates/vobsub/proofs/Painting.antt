@@ -11,6 +11,7 @@ use lib.ListN.{length, getD, take, drop, set, length-drop, length-set}
 use lib.Dec.{eqb}
 use lib.Seq.{sets, drop-cons, drop-drop, length-sets, length-take-le}
 use borrow.Author.Tests.{eq-eqb, ne-eqb}
+use Rattle.grammar.proofs.Lengths.{line-length}
 use Rattle.outcome.proofs.Laws.{sets-append}
 use Rattle.grammar.specs.Look.{Look}
 use Rattle.grammar.specs.Canvas.{nibbleOf, coloured, pixel, orOwn, lineBytes}
@@ -222,13 +223,6 @@ quad-of p = record { a = getD p 0 0; b = getD p 1 0; d = getD p 2 0; e = getD p 
 
 -- ---- Lines
 
-pub length-line : (palette : List ℕ) (look : ℕ → ℕ → Look) (x y : ℕ) (cs : List ℕ) → length (lineBytes palette look x y cs) ≡ 4 * length cs
-unfolding lineBytes
-length-line palette look x y [] = refl
-length-line palette look x y (c ∷ cs) =
-    let q = quad palette (look x y) c in
-    rw (q .is) (let n = length-line palette look (x + 1) y cs in omega (arith, n))
-
 -- room for r lines and one more, of h
 pub line-room : (w h r : ℕ) → r < h → r * w + w ≤ w * h
 line-room w h r k = let m : suc r * w ≤ h * w = mul-le-mul-right w k in omega (arith, m)
@@ -256,7 +250,7 @@ module _ (palette : List ℕ) (look : ℕ → ℕ → Look) (x y w h : ℕ) (m s
       let line : List ℕ = lineBytes palette look x (y + r) (take w (drop from m)) in
       let g : s′ ≡ sets s (4 * from) line = f ∙ ap (λ (t : ℕ). sets s (4 * from) (lineBytes palette look x (y + r) (take t (drop from m)))) j in
       let q : 4 * from + length line ≡ 4 * (from + w) =
-      ap (λ (t : ℕ). 4 * from + t) (length-line palette look x (y + r) (take w (drop from m)) ∙ ap (λ (t : ℕ). 4 * t) (length-take-le w (drop from m) (rw (length-drop from m) (omega arith)))) ∙ omega arith in
+      ap (λ (t : ℕ). 4 * from + t) (line-length palette look x (y + r) (take w (drop from m)) ∙ ap (λ (t : ℕ). 4 * t) (length-take-le w (drop from m) (rw (length-drop from m) (omega arith)))) ∙ omega arith in
       let v : y + r + 1 ≡ y + (r + 1) = omega arith in
       let p = k .place in
       record {

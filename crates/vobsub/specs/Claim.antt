@@ -2,7 +2,7 @@
 use mathlib.Core.Path.{_≡_}
 use mathlib.Core.Logic.{_↔_}
 use mathlib.Core.List.{List}
-use Prim.Native.Nat.{ℕ}
+use Prim.Native.Nat.{ℕ, _*_}
 use lib.ListN.{length}
 use lib.Seq.{sets}
 use Rattle.grammar.specs.Reading.{Wanted, Reading, IsReading, shown, mapOf, wordsOf, canvasOf, LongEnough}
@@ -22,7 +22,7 @@ Gives (canvas-answer.Refused n) = ⊥
 abbrev pub Room : Reading → Lent → Type 0
 Room x b = LongEnough x (length (b .scratch)) (length (b .pixels)) (length (b .words)) (length (b .canvas))
 
--- answer and buffers are what the reading gives, and past that each buffer is as found
+-- answer and buffers are what the reading gives, a byte of the map and four of the canvas for each pixel; past that each buffer is as found
 pub record Equal (x : Reading) (b : Lent) (r : CanvasAnswer) (b′ : Lent) : Type 0 where
   pub says : Shown
   pub paints : r ≡ canvas-answer.Paints says
@@ -40,6 +40,8 @@ pub record Equal (x : Reading) (b : Lent) (r : CanvasAnswer) (b′ : Lent) : Typ
   pub in-pixels : b′ .pixels ≡ sets (b .pixels) 0 (mapOf x)
   pub in-words : b′ .words ≡ sets (b .words) 0 (wordsOf x)
   pub in-canvas : b′ .canvas ≡ sets (b .canvas) 0 (canvasOf x)
+  pub map-long : length (mapOf x) ≡ shown x .width * shown x .height
+  pub canvas-long : length (canvasOf x) ≡ 4 * (shown x .width * shown x .height)
 
 -- a canvas exactly where there is a reading and room for it; no two readings; and all that is given is the reading's
 pub record Exactly (text file : List ℕ) (q : Wanted) (b : Lent) (r : CanvasAnswer) (b′ : Lent) : Type 0 where

@@ -1,4 +1,5 @@
--- What the exported functions return and leave, in the words of the layers. Assumes nothing: these are definitions.
+-- What the exported functions return and leave, in the words of the layers: the number of a refusal, 0 only where there is none (`returned`), and
+-- the last content of all that was lent. Assumes nothing: these are definitions.
 use Prim.Native.Nat.{ℕ, _*_}
 use mathlib.Core.Path.{_≡_}
 use mathlib.Core.List.{List, [], _∷_}
@@ -7,7 +8,7 @@ use lib.Dec.{eqb}
 use lib.IntN.{ℤ}
 use lib.ListN.{length}
 use lib.Seq.{sets}
-use Rattle.outcome.specs.Outcome.{Res, ok, refuse, listed}
+use Rattle.outcome.specs.Outcome.{Res, ok, refuse, listed, refusalOf, Returned}
 use Rattle.chg_colcon.specs.Answers.{countOf, stored}
 use Rattle.chg_colcon.specs.declared.BandAnswer.{BandAnswer}
 use Rattle.chg_colcon.specs.declared.BandAnswer.the-variants as band-answer
@@ -34,7 +35,8 @@ use Rattle.spu.specs.Unit.{unitIn}
 use Rattle.spu.specs.Answers.{spuAnswer, unitMap, unitBands}
 use Rattle.spu.specs.declared.SpuAnswer.{SpuAnswer}
 use Rattle.spu.specs.declared.SpuAnswer.the-variants as spu-answer
-use Rattle.vobsub.specs.Call.{Lent, wanted, foundFor, readingIn}
+use Rattle.grammar.specs.Reading.{wanted}
+use Rattle.vobsub.specs.Call.{Lent, foundFor, readingIn}
 use Rattle.vobsub.specs.Answers.{canvasAnswer, scratchOf, pixelsOf, bandsOf, paintedOf}
 use Rattle.vobsub.specs.Claim.{Exactly}
 use Rattle.vobsub.specs.declared.Shown.{Shown}
@@ -53,6 +55,7 @@ bandCount (band-answer.Refused k) before = before
 
 pub record BandsGiven (payload words : List ℕ) (at count r : ℕ) (words′ : List ℕ) (count′ : ℕ) : Type 0 where
   pub refusal : r ≡ bandRefusal (countOf 0 (stored payload at words))
+  pub returned : Returned (stored payload at words) r
   pub counted : count′ ≡ bandCount (countOf 0 (stored payload at words)) count
   pub stores : words′ ≡ sets words at (listed (stored payload at words))
 
@@ -75,21 +78,19 @@ unitJoined (unit-answer.Refused k) before = before
 
 pub record UnitExtracted (file : List ℕ) (position : ℕ) (scratch : List ℕ) (before joined r : ℕ) (scratch′ : List ℕ) (after joined′ : ℕ) : Type 0 where
   pub refusal : r ≡ unitRefusal (unitGiven (unitAt subpicture file position (length scratch)))
+  pub returned : Returned (unitAt subpicture file position (length scratch)) r
   pub long : after ≡ unitLength (unitGiven (unitAt subpicture file position (length scratch))) before
   pub where-is : joined′ ≡ unitJoined (unitGiven (unitAt subpicture file position (length scratch))) joined
   pub stores : scratch′ ≡ sets scratch 0 (unitStored (unitAt subpicture file position (length scratch)))
 
--- the refusal of a body, and its place, or the number that was there
-abbrev pub bodyRefusal : Res ℕ → ℕ
-bodyRefusal (ok b) = 0
-bodyRefusal (refuse k) = k
-
+-- the place of a body, or the number that was there
 abbrev pub bodyPlace : Res ℕ → ℕ → ℕ
 bodyPlace (ok b) before = b
 bodyPlace (refuse k) before = before
 
 pub record BodyFound (pes : List ℕ) (before r after : ℕ) : Type 0 where
-  pub refusal : r ≡ bodyRefusal (bodyAt pes 0 (length pes))
+  pub refusal : r ≡ refusalOf (bodyAt pes 0 (length pes))
+  pub returned : Returned (bodyAt pes 0 (length pes)) r
   pub place : after ≡ bodyPlace (bodyAt pes 0 (length pes)) before
 
 abbrev pub fieldRefusal : FieldAnswer → ℕ
@@ -103,6 +104,7 @@ fieldCodes (field-answer.Refused k) before = before
 
 pub record FieldDecoded (field : List ℕ) (w h start : ℕ) (pixels : List ℕ) (before r : ℕ) (pixels′ : List ℕ) (after : ℕ) : Type 0 where
   pub refusal : r ≡ fieldRefusal (fieldAnswer w (decoded field w h start pixels))
+  pub returned : Returned (decoded field w h start pixels) r
   pub codes : after ≡ fieldCodes (fieldAnswer w (decoded field w h start pixels)) before
   pub stores : pixels′ ≡ paintField w (start * w) (listed (decoded field w h start pixels)) pixels
 
@@ -122,6 +124,7 @@ spuRecord (spu-answer.Refused k) before = before
 
 pub record UnitDecoded (unit pixels words before : List ℕ) (r : ℕ) (pixels′ words′ after : List ℕ) : Type 0 where
   pub refusal : r ≡ spuRefusal (spuAnswer (unitIn unit (length pixels) (length words)))
+  pub returned : Returned (unitIn unit (length pixels) (length words)) r
   pub told : after ≡ spuRecord (spuAnswer (unitIn unit (length pixels) (length words))) before
   pub paints : pixels′ ≡ sets pixels 0 (unitMap (unitIn unit (length pixels) (length words)))
   pub stores : words′ ≡ sets words 0 (unitBands (unitIn unit (length pixels) (length words)))
@@ -137,6 +140,7 @@ demoLength (demo-answer.Refused k) before = before
 
 pub record UnitWritten (w h : ℕ) (indices out : List ℕ) (before r : ℕ) (out′ : List ℕ) (after : ℕ) : Type 0 where
   pub refusal : r ≡ demoRefusal (demoGiven (demoAt w h indices (length out)))
+  pub returned : Returned (demoAt w h indices (length out)) r
   pub long : after ≡ demoLength (demoGiven (demoAt w h indices (length out))) before
   pub stores : out′ ≡ sets out 0 (listed (demoAt w h indices (length out)))
 
@@ -153,6 +157,7 @@ idxPalette a before = cond (eqb (a .refused) 0) (a .palette) before
 
 pub record IndexGiven (text : List ℕ) (starts : List ℤ) (positions palette numbers : List ℕ) (r : ℕ) (starts′ : List ℤ) (positions′ palette′ numbers′ : List ℕ) : Type 0 where
   pub refusal : r ≡ idxAnswer (linesWith starts positions text) .refused
+  pub returned : Returned (linesWith starts positions text) r
   pub told : numbers′ ≡ idxRecord (idxAnswer (linesWith starts positions text)) numbers
   pub colours : palette′ ≡ idxPalette (idxAnswer (linesWith starts positions text)) palette
   pub starts-are : starts′ ≡ sets starts 0 (startsOf (listed (linesWith starts positions text)))
@@ -174,6 +179,7 @@ cuePalette a before = cond (eqb (a .refused) 0) (a .palette) before
 
 pub record CueGiven (text : List ℕ) (cue : ℕ) (start : ℤ) (palette numbers : List ℕ) (r : ℕ) (start′ : ℤ) (palette′ numbers′ : List ℕ) : Type 0 where
   pub refusal : r ≡ cueAnswer (pickOf (textOf text) cue) .refused
+  pub returned : Returned (pickOf (textOf text) cue) r
   pub starts-at : start′ ≡ cueStart (cueAnswer (pickOf (textOf text) cue)) start
   pub told : numbers′ ≡ cueRecord (cueAnswer (pickOf (textOf text) cue)) numbers
   pub colours : palette′ ≡ cuePalette (cueAnswer (pickOf (textOf text) cue)) palette
@@ -199,6 +205,7 @@ canvasStart (canvas-answer.Refused k) before = before
 -- the answer with its numbers, what the four buffers hold, and the call's claim on whole files
 pub record CueDecoded (text file : List ℕ) (cue : ℕ) (b : Lent) (start : ℤ) (numbers : List ℕ) (r : ℕ) (b′ : Lent) (start′ : ℤ) (numbers′ : List ℕ) : Type 0 where
   pub refusal : r ≡ canvasRefusal (canvasAnswer (readingIn text file (wanted cue) b))
+  pub returned : Returned (readingIn text file (wanted cue) b) r
   pub starts-at : start′ ≡ canvasStart (canvasAnswer (readingIn text file (wanted cue) b)) start
   pub told : numbers′ ≡ canvasRecord (canvasAnswer (readingIn text file (wanted cue) b)) numbers
   pub in-scratch : b′ .scratch ≡ sets (b .scratch) 0 (scratchOf (foundFor text file (wanted cue) (length (b .scratch))))

@@ -17,7 +17,7 @@ ghost use Rattle.vobsub.specs.Call.{lent};
 ghost use Rattle.vobsub_c.specs.Answers.{BandsGiven, UnitExtracted, FieldDecoded, BodyFound, spuNumbers, UnitDecoded, UnitWritten, idxNumbers, IndexGiven, cueNumbers, CueGiven, shownNumbers, CueDecoded};
 
 // The bands in a payload, stored from place `at` of the lent words on, and how many words they take.
-// Ruled out: a count set on a refusal.
+// Ruled out: a count set on a refusal; words before `at` changed.
 #[no_mangle]
 pub extern "C" fn vobsub_parse_chg_colcon_payload(
     payload: &[u8],
@@ -79,7 +79,7 @@ pub extern "C" fn vobsub_parse_pes_body(pes: &[u8], body: &mut usize) -> u8
 }
 
 // The rows start_row, start_row + 2, .. of a map of that width and height, and how many codes they have.
-// Ruled out: a number of codes set on a refusal.
+// Ruled out: a number of codes set on a refusal; rows of the other field painted.
 #[no_mangle]
 pub extern "C" fn vobsub_decode_rle_field(
     field: &[u8],
@@ -197,7 +197,7 @@ pub extern "C" fn vobsub_parse_and_decode_spu(
 }
 
 // A picture as a unit in the front of `out`, and the unit's length.
-// Ruled out: a length set on a refusal.
+// Ruled out: a length set on a refusal; bytes behind the unit changed.
 #[no_mangle]
 pub extern "C" fn vobsub_build_demo_spu(
     width: usize,

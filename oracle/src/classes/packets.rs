@@ -24,13 +24,17 @@ fn fixed(world: &World, each: &mut dyn FnMut(Request)) {
             }
         }
     }
-    // every byte after a pack's code, and every tenth
+    // every byte after a pack's code, and every last byte of a pack of 10 bytes with its stuffing and of 8
     for b in 0..=255u8 {
-        for tenth in 0..=255u8 {
-            let mut bytes = vec![0, 0, 1, 0xBA, b, 0, 0, 0, 0, 0, 0, 0, 0, tenth];
-            bytes.resize(14 + (tenth % 8) as usize, 0xFF);
-            bytes.extend([0, 0, 1, 0xBD, 0, 8, 0x80, 0, 0, 0x20, 0, 4, 0, 4]);
-            each(Request { bytes, n: [0, 4, 0, 0] });
+        for last in 0..=255u8 {
+            for (size, stuffing) in [(10, last % 8), (8, 0)] {
+                let mut bytes = vec![0, 0, 1, 0xBA, b];
+                bytes.resize(3 + size, 0);
+                bytes.push(last);
+                bytes.resize(4 + size + stuffing as usize, 0xFF);
+                bytes.extend([0, 0, 1, 0xBD, 0, 8, 0x80, 0, 0, 0x20, 0, 4, 0, 4]);
+                each(Request { bytes, n: [0, 4, 0, 0] });
+            }
         }
     }
 }

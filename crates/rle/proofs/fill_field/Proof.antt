@@ -3,10 +3,12 @@ use Prim.Native.Nat.{ℕ, _+_, _*_, _-_, _≤_, _<_}
 use mathlib.Core.Path.{_≡_, refl, _∙_}
 use mathlib.Core.List.{List}
 use native.Mathlib.Omega.{arith}
+use borrow.Author.Needs.{needs}
 use denote.Ref.{now}
 use lib.ListN.{length}
 use Rattle.outcome.specs.Outcome.{IsOk, listed}
 use Rattle.codes.specs.Codes.{fieldAt}
+use Rattle.nibbles.proofs.Laws.{on-byte}
 use Rattle.rle.specs.Field.{paintField}
 use Rattle.rle.proofs.Turns.{mul-pred, row-there, row-goes-inside, field-there, field-paint, field-paint-end, blank-kept}
 use Rattle.rle.proofs.fill_field.Statement.{statement}
@@ -44,8 +46,8 @@ ends c =
     let i = c .before .before .before .before .before .loop .inv in
     rw (c .before .before .fill-row .ensures .next) (row-goes-inside _ _ _ _ _ (c .before .before .before .before .loop-test .taken) (i .there) (i .wide))
 
-aligned-requires : tie.Need-aligned-requires Inv-loop μ-loop
-aligned-requires c κs = omega (arith, ends c)
+align-through-requires : tie.Need-align-through-requires Inv-loop μ-loop
+align-through-requires c κs = search needs
 
 add-to : tie.Need-add-to Inv-loop μ-loop
 add-to c = omega (arith, mul-pred (c .before .before .before .before .before .before .loop .left) (2 * c .before .before .before .before .before .before .before .before .before .before .args .width) (omega arith))
@@ -64,12 +66,13 @@ loop-again c =
     let i = c .before .before .before .before .before .before .loop in
     let f = c .before .before .before .fill-row in
     let h = c .before .before .before .before .before .loop-test .taken in
+    let a = c .align-through .ensures ∙ on-byte (now (c .before .before .before .before .before .before .before .before .before .before .args .field)) _ (ends (c .before)) in
     record {
       wide = i .inv .wide;
       room = omega (arith, mul-pred (i .left) (2 * c .before .before .before .before .before .before .before .before .before .before .args .width) h, i .inv .room);
       long = f .kept .1 .1 .1 .1 .0 ∙ i .inv .long;
-      there = field-there _ _ _ _ _ h (i .inv .there) _ _ (f .ensures .next) (c .aligned .ensures);
-      goes = field-paint _ _ _ _ _ h (i .inv .there) _ _ (f .ensures .next) (c .aligned .ensures) _ _ _ (f .ensures .pixels) ∙ i .inv .goes;
+      there = field-there _ _ _ _ _ h (i .inv .there) _ _ (f .ensures .next) a;
+      goes = field-paint _ _ _ _ _ h (i .inv .there) _ _ (f .ensures .next) a _ _ _ (f .ensures .pixels) ∙ i .inv .goes;
     }
 
 same-length : tie.Need-same-length Inv-loop μ-loop
@@ -87,7 +90,7 @@ fill-field-spec =
     returns
     loop-holds
     fill-row-requires
-    aligned-requires
+    align-through-requires
     add-to
     add-to-2
     sub-left

@@ -11,7 +11,8 @@ use lib.Seq.{sets}
 use Rattle.grammar.specs.Rows.{code, afterCodes}
 use Rattle.grammar.specs.Pixels.{rowPixels}
 use Rattle.codes.specs.Codes.{rowAt}
-use Rattle.codes.proofs.Laws.{paints-le, paints-pos}
+use Rattle.grammar.proofs.Lengths.{paints-le}
+use Rattle.codes.proofs.Laws.{paints-pos}
 use Rattle.codes.proofs.Turns.{Coded, coded, uncoded}
 use Rattle.rle.proofs.Turns.{row-short, ok-more, after-more, paint-more, paint-end, after-end}
 use Rattle.rle.proofs.fill_row.Statement.{statement}

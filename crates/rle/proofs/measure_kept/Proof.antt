@@ -1,20 +1,20 @@
 -- `rle::measure_kept` meets its contract: the rows left, counted and kept behind what was counted and kept, are all rows. Assumes nothing.
 use Prim.Native.Nat.{ℕ, _-_, _<_}
 use native.Mathlib.Omega.{arith}
-use mathlib.Core.Path.{_≡_, refl, sym, ap, _∙_, subst}
+use mathlib.Core.Path.{_≡_, refl, sym, ap, _∙_}
 use mathlib.Core.List.{List}
 use borrow.Author.Needs.{needs}
 use denote.Ref.{now}
 use lib.ListN.{length}
 use lib.Seq.{sets}
-use Rattle.outcome.specs.Outcome.{Res, listed, IsOk}
+use Rattle.outcome.specs.Outcome.{Res}
 use Rattle.grammar.specs.Rows.{Code}
-use Rattle.codes.specs.Codes.{fieldAt}
+use Rattle.codes.specs.Codes.{fieldAt, fieldRead}
 use Rattle.rle.specs.Kept.{keptAll}
 use Rattle.rle.specs.Answers.{AtMost, fieldAnswer, plusField, measured}
 use Rattle.rle.specs.declared.Counts.{Counts}
-use Rattle.rle.proofs.Turns.{Rowed, rowed, unrowed, field-whole, field-more, field-short, field-end, row-there, rows-there, blank-counts, at-most-le, at-most-align}
-use Rattle.rle.proofs.Kept.{keep-rows, keep-rows-end, blank-keeps}
+use Rattle.rle.proofs.Turns.{Rowed, rowed, row-aligned, unrowed, field-whole, field-more, field-short, field-end, blank-counts, at-most-le, at-most-align}
+use Rattle.rle.proofs.Kept.{keep-rows, keep-rows-short, keep-rows-end, blank-keeps}
 use Rattle.rle.proofs.measure_kept.Statement.{statement}
 use Rattle.rle.proofs.measure_kept.Tie as tie
 
@@ -23,10 +23,7 @@ pub record Inv (field : List ℕ) (width rows : ℕ) (kept₀ kept : List ℕ) (
   pub few : AtMost pos counts
   pub long : length kept ≡ length kept₀
   pub goes : plusField counts (fieldAnswer width (fieldAt field (length field) width left pos)) ≡ measured field width rows
-  pub there : IsOk (fieldAt field (length field) width rows 0) → IsOk (fieldAt field (length field) width left pos)
-  pub keeps : IsOk (fieldAt field (length field) width rows 0)
-      → sets kept (counts .codes) (keptAll width (listed (fieldAt field (length field) width left pos)))
-      ≡ sets kept₀ 0 (keptAll width (listed (fieldAt field (length field) width rows 0)))
+  pub keeps : sets kept (counts .codes) (keptAll width (fieldRead field (length field) width left pos)) ≡ sets kept₀ 0 (keptAll width (fieldRead field (length field) width rows 0))
 
 abbrev Inv-loop : tie.InvT-loop
 Inv-loop field width rows kept₀ counts₀ pos₀ left₀ kept counts pos left = Inv field width rows kept₀ kept counts pos left
@@ -36,11 +33,11 @@ abbrev μ-loop : tie.MeasureT-loop
 
 returns : tie.Need-returns Inv-loop μ-loop
 returns c =
-    record { answer = blank-counts _ _ _ _ (c .if1 .taken); keeps = λ o. blank-keeps _ _ _ _ _ (c .if1 .taken) }
+    record { answer = blank-counts _ _ _ _ (c .if1 .taken); keeps = blank-keeps _ _ _ _ _ (c .if1 .taken) }
 
 loop-holds : tie.Need-loop-holds Inv-loop μ-loop
 loop-holds c =
-    record { wide = omega arith; few = omega arith; long = refl; goes = field-whole _; there = λ o. o; keeps = λ o. refl }
+    record { wide = omega arith; few = omega arith; long = refl; goes = field-whole _; keeps = refl }
 
 measure-row-requires : tie.Need-measure-row-requires Inv-loop μ-loop
 measure-row-requires c κs = c .before .before .loop .inv .few
@@ -58,8 +55,8 @@ plus-counts-requires c κs =
     let i = c .before .before .before .before .before .before .before .before .loop .inv in
     at-most-le _ _ _ (omega (arith, got c .inside (i .wide))) (got c .few _ (i .few))
 
-aligned-requires : tie.Need-aligned-requires Inv-loop μ-loop
-aligned-requires c κs = omega (arith, got (c .before) .goes, got (c .before) .inside (c .before .before .before .before .before .before .before .before .before .loop .inv .wide))
+align-through-requires : tie.Need-align-through-requires Inv-loop μ-loop
+align-through-requires c κs = search needs
 
 sub-left : tie.Need-sub-left Inv-loop μ-loop
 sub-left c = omega arith
@@ -74,16 +71,13 @@ loop-again c =
     let g = got (c .before .before) in
     let b = c .before .plus-counts .ensures in
     let r = c .before .before .before .before .before .before .before .measure-row in
+    let a = row-aligned _ _ _ _ _ g (i .inv .wide) _ (c .align-through .ensures) in
     record {
       wide = i .inv .wide;
-      few = rw (b, c .aligned .ensures, g .goes) (at-most-align _ _ (g .few _ (i .inv .few)));
+      few = rw (b, a, g .goes) (at-most-align _ _ (g .few _ (i .inv .few)));
       long = r .kept .1 .1 .1 .0 ∙ i .inv .long;
-      goes = field-more _ _ _ _ _ h _ _ _ _ _ g (c .aligned .ensures) b ∙ i .inv .goes;
-      there = λ o. rows-there _ _ _ _ _ h _ _ g (i .inv .there o) _ (c .aligned .ensures);
-      keeps =
-          λ o.
-          keep-rows _ _ _ _ _ h _ _ g (i .inv .there o) _ _ _ _ _ (r .ensures .keeps (row-there _ _ _ _ _ h (i .inv .there o))) (ap (λ (a : Counts). a .codes) b) (c .aligned .ensures)
-          ∙ i .inv .keeps o;
+      goes = field-more _ _ _ _ _ h _ _ _ _ _ g a b ∙ i .inv .goes;
+      keeps = keep-rows _ _ _ _ _ h _ _ g _ _ _ _ _ (r .ensures .keeps) (ap (λ (a : Counts). a .codes) b) a ∙ i .inv .keeps;
     }
 
 enum-known-number : tie.Need-enum-known-number Inv-loop μ-loop
@@ -95,10 +89,13 @@ same-length c = c .before .before .before .before .before .measure-row .kept .1 
 returns-2 : tie.Need-returns-2 Inv-loop μ-loop
 returns-2 c =
     let i = c .before .before .before .before .before .before .before .before .loop in
-    let n = field-short _ _ _ _ _ (c .before .before .before .before .before .before .before .loop-test .taken) _ (unrowed _ _ _ _ _ (sym (c .before .number .given .1) ∙ c .before .before .before .before .before .measure-row .ensures .answer)) in
+    let l = c .before .before .before .before .before .before .before .loop-test .taken in
+    let m = c .before .before .before .before .before .measure-row .ensures in
+    let r = unrowed _ _ _ _ _ (sym (c .before .number .given .1) ∙ m .answer) in
+    let n = field-short _ _ _ _ _ l _ r in
     record {
       answer = sym (ap (λ (o : Res (List (List Code))). plusField (i .counts) (fieldAnswer (c .before .before .before .before .before .before .before .before .before .before .before .before .args .width) o)) n) ∙ i .inv .goes;
-      keeps = λ o. absurd (subst IsOk n (i .inv .there o));
+      keeps = keep-rows-short _ _ _ _ _ _ _ _ _ l r (m .keeps) ∙ i .inv .keeps;
     }
 
 same-length-2 : tie.Need-same-length-2 Inv-loop μ-loop
@@ -109,7 +106,7 @@ returns-3 c =
     let i = c .before .loop in
     record {
       answer = sym (field-end _ _ _ _ _ _ (omega arith)) ∙ i .inv .goes;
-      keeps = λ o. keep-rows-end _ _ _ _ _ _ _ (omega arith) ∙ i .inv .keeps o;
+      keeps = keep-rows-end _ _ _ _ _ _ _ (omega arith) ∙ i .inv .keeps;
     }
 
 pub measure-kept-spec : {M : Type 1} → statement M
@@ -123,7 +120,7 @@ measure-kept-spec =
     measure-row-requires
     enum-known-more
     plus-counts-requires
-    aligned-requires
+    align-through-requires
     sub-left
     loop-less
     loop-again

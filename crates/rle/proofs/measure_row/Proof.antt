@@ -3,22 +3,23 @@
 use Prim.Native.Nat.{ℕ, _+_, _-_, _≤_}
 use native.Mathlib.Nat.{add-zero}
 use native.Mathlib.Omega.{arith}
-use mathlib.Core.Path.{_≡_, refl, sym, ap, _∙_, subst}
+use mathlib.Core.Path.{_≡_, refl, sym, ap, _∙_}
 use mathlib.Core.List.{List}
 use borrow.Author.Needs.{needs}
 use denote.Ref.{now}
 use lib.ListN.{length}
 use lib.Seq.{sets}
-use Rattle.outcome.specs.Outcome.{Res, listed, IsOk}
+use Rattle.outcome.specs.Outcome.{Res}
 use Rattle.grammar.specs.Rows.{Code, code}
-use Rattle.codes.specs.Codes.{rowAt}
+use Rattle.codes.specs.Codes.{rowAt, rowRead}
 use Rattle.rle.specs.Kept.{keptRow}
 use Rattle.rle.specs.Answers.{AtMost, rowAnswer}
 use Rattle.rle.specs.declared.Counts.{Counts}
-use Rattle.codes.proofs.Laws.{paints-le, paints-pos}
+use Rattle.grammar.proofs.Lengths.{paints-le}
+use Rattle.codes.proofs.Laws.{paints-pos}
 use Rattle.codes.proofs.Turns.{Coded, coded, uncoded}
-use Rattle.rle.proofs.Turns.{plusRow, row-whole, row-more, row-short, row-end, ok-more, at-most-counted}
-use Rattle.rle.proofs.Kept.{keep-more, keep-end}
+use Rattle.rle.proofs.Turns.{plusRow, row-whole, row-more, row-short, row-end, at-most-counted}
+use Rattle.rle.proofs.Kept.{keep-more, keep-short, keep-end}
 use Rattle.rle.proofs.measure_row.Statement.{statement}
 use Rattle.rle.proofs.measure_row.Tie as tie
 
@@ -27,10 +28,7 @@ pub record Inv (field : List ℕ) (width : ℕ) (kept₀ : List ℕ) (from pos�
   pub behind : from + counts .codes ≤ pos
   pub long : length kept ≡ length kept₀
   pub goes : plusRow counts (rowAnswer left pos (rowAt field (length field) left pos)) ≡ rowAnswer width pos₀ (rowAt field (length field) width pos₀)
-  pub there : IsOk (rowAt field (length field) width pos₀) → IsOk (rowAt field (length field) left pos)
-  pub keeps : IsOk (rowAt field (length field) width pos₀)
-      → sets kept (from + counts .codes) (keptRow left (listed (rowAt field (length field) left pos)))
-      ≡ sets kept₀ from (keptRow width (listed (rowAt field (length field) width pos₀)))
+  pub keeps : sets kept (from + counts .codes) (keptRow left (rowRead field (length field) left pos)) ≡ sets kept₀ from (keptRow width (rowRead field (length field) width pos₀))
 
 abbrev Inv-loop : tie.InvT-loop
 Inv-loop field width kept₀ from pos₀ left₀ counts₀ kept pos left counts = Inv field width kept₀ from pos₀ kept pos left counts
@@ -45,8 +43,7 @@ loop-holds c =
       behind = omega (arith, c .before .before .pre);
       long = refl;
       goes = row-whole _;
-      there = λ i. i;
-      keeps = λ i. rw add-zero;
+      keeps = rw add-zero;
     }
 
 read-code-requires : tie.Need-read-code-requires Inv-loop μ-loop
@@ -94,8 +91,7 @@ loop-again c =
       behind = omega (arith, g .goes, g .is .one, i .inv .behind);
       long = c .before .before .before .keep .kept .0 ∙ i .inv .long;
       goes = row-more _ _ _ _ l _ _ _ _ _ _ g m b ∙ i .inv .goes;
-      there = λ o. ok-more _ _ _ _ l _ _ _ _ g m (i .inv .there o);
-      keeps = λ o. rw z (keep-more _ _ _ _ l _ _ _ _ g m (i .inv .there o) _ _ _ (c .before .before .before .keep .ensures) ∙ i .inv .keeps o);
+      keeps = rw z (keep-more _ _ _ _ l _ _ _ _ g m _ _ _ (c .before .before .before .keep .ensures) ∙ i .inv .keeps);
     }
 
 enum-known-number : tie.Need-enum-known-number Inv-loop μ-loop
@@ -107,10 +103,12 @@ same-length c = c .before .before .before .before .before .loop .inv .long
 returns : tie.Need-returns Inv-loop μ-loop
 returns c =
     let i = c .before .before .before .before .before .loop in
-    let n = row-short _ _ _ _ (c .before .before .before .before .loop-test .taken) _ (uncoded _ _ _ _ (sym (c .before .number .given .1) ∙ c .before .before .before .read-code .ensures)) in
+    let l = c .before .before .before .before .loop-test .taken in
+    let r = uncoded _ _ _ _ (sym (c .before .number .given .1) ∙ c .before .before .before .read-code .ensures) in
+    let n = row-short _ _ _ _ l _ r in
     record {
       answer = sym (ap (λ (o : Res (List Code)). plusRow (i .counts) (rowAnswer (i .left) (i .pos) o)) n) ∙ i .inv .goes;
-      keeps = λ o. absurd (subst IsOk n (i .inv .there o));
+      keeps = keep-short _ _ _ _ _ _ _ l r ∙ i .inv .keeps;
     }
 
 same-length-2 : tie.Need-same-length-2 Inv-loop μ-loop
@@ -121,7 +119,7 @@ returns-2 c =
     let i = c .before .loop in
     record {
       answer = sym (row-end _ _ _ _ _ (omega arith)) ∙ i .inv .goes;
-      keeps = λ o. keep-end _ _ _ _ _ _ (omega arith) ∙ i .inv .keeps o;
+      keeps = keep-end _ _ _ _ _ _ (omega arith) ∙ i .inv .keeps;
     }
 
 pub measure-row-spec : {M : Type 1} → statement M

@@ -2,7 +2,8 @@
 use Prim.Native.Nat.{ℕ}
 use native.Mathlib.Omega.{arith}
 use mathlib.Core.Path.{_≡_}
-use Rattle.vobsub.proofs.Call.{cue-refused, unit-none, unit-some, named, kept}
+use Rattle.ps.proofs.Unit.{named}
+use Rattle.vobsub.proofs.Call.{cue-refused, unit-none, unit-some, kept}
 use borrow.Author.Needs.{needs}
 use Rattle.vobsub.proofs.decode_cue.Statement.{statement}
 use Rattle.vobsub.proofs.decode_cue.Tie as tie

@@ -6,14 +6,15 @@ use borrow.Author.Needs.{needs}
 use Rattle.demo.specs.Answers.{Written}
 use Rattle.demo.specs.declared.DemoAnswer.{DemoAnswer}
 use Rattle.vobsub_c.specs.Answers.{demoRefusal, demoLength, UnitWritten}
+use Rattle.vobsub_c.proofs.Returned.{demo-returned}
 use Rattle.vobsub_c.proofs.vobsub_build_demo_spu.Statement.{statement}
 use Rattle.vobsub_c.proofs.vobsub_build_demo_spu.Tie as tie
 
 -- what is left where the layer's answer is known
 given : (w h : ℕ) (px o o′ : List ℕ) (n : ℕ) (a b : DemoAnswer) → a ≡ b → Written w h px o a o′ → UnitWritten w h px o n (demoRefusal b) o′ (demoLength b n)
 given w h px o o′ n a b e q =
-    let h = sym e ∙ q .answer in
-    record { refusal = ap demoRefusal h; long = ap (λ (o : DemoAnswer). demoLength o n) h; stores = q .output }
+    let y = sym e ∙ q .answer in
+    record { refusal = ap demoRefusal y; returned = demo-returned _ _ _ _ _ (ap demoRefusal y); long = ap (λ (o : DemoAnswer). demoLength o n) y; stores = q .output }
 
 build-demo-spu-requires : tie.Need-build-demo-spu-requires
 build-demo-spu-requires c κs = search needs

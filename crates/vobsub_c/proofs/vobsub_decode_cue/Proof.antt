@@ -6,11 +6,13 @@ use lib.IntN.{ℤ}
 use mir.Facts.{toZ-ofZ}
 use mir.Syntax.{w64}
 use borrow.Author.Needs.{needs}
-use Rattle.vobsub.specs.Call.{Lent, wanted}
+use Rattle.grammar.specs.Reading.{wanted}
+use Rattle.vobsub.specs.Call.{Lent}
 use Rattle.vobsub.specs.Answers.{CuePainted}
 use Rattle.vobsub.specs.Claim.{Exactly}
 use Rattle.vobsub.specs.declared.CanvasAnswer.{CanvasAnswer}
 use Rattle.vobsub_c.specs.Answers.{canvasRefusal, canvasStart, canvasRecord, CueDecoded}
+use Rattle.vobsub_c.proofs.Returned.{canvas-returned}
 use Rattle.vobsub_c.proofs.vobsub_decode_cue.Statement.{statement}
 use Rattle.vobsub_c.proofs.vobsub_decode_cue.Tie as tie
 
@@ -20,6 +22,7 @@ given t f n b b′ z z′ ns ns′ a d e q k h =
     let y = sym e ∙ q .0 .answer in
     record {
       refusal = ap canvasRefusal y;
+      returned = canvas-returned t f n b _ (ap canvasRefusal y);
       starts-at = k ∙ ap (λ (o : CanvasAnswer). canvasStart o z) y;
       told = h ∙ ap (λ (o : CanvasAnswer). canvasRecord o ns) y;
       in-scratch = q .0 .in-scratch;

@@ -6,14 +6,15 @@ use borrow.Author.Needs.{needs}
 use Rattle.rle.specs.Answers.{Decoded}
 use Rattle.rle.specs.declared.FieldAnswer.{FieldAnswer}
 use Rattle.vobsub_c.specs.Answers.{fieldRefusal, fieldCodes, FieldDecoded}
+use Rattle.vobsub_c.proofs.Returned.{field-returned}
 use Rattle.vobsub_c.proofs.vobsub_decode_rle_field.Statement.{statement}
 use Rattle.vobsub_c.proofs.vobsub_decode_rle_field.Tie as tie
 
 -- what is left where the layer's answer is known
 given : (f : List ℕ) (w h s : ℕ) (px px′ : List ℕ) (n : ℕ) (a b : FieldAnswer) → a ≡ b → Decoded f w h s px a px′ → FieldDecoded f w h s px n (fieldRefusal b) px′ (fieldCodes b n)
 given f w h s px px′ n a b e q =
-    let h = sym e ∙ q .answer in
-    record { refusal = ap fieldRefusal h; codes = ap (λ (o : FieldAnswer). fieldCodes o n) h; stores = q .pixels }
+    let y = sym e ∙ q .answer in
+    record { refusal = ap fieldRefusal y; returned = field-returned _ _ _ _ _ _ (ap fieldRefusal y); codes = ap (λ (o : FieldAnswer). fieldCodes o n) y; stores = q .pixels }
 
 decode-rle-field-requires : tie.Need-decode-rle-field-requires
 decode-rle-field-requires c κs = search needs

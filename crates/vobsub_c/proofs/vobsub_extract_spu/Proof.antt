@@ -6,6 +6,7 @@ use borrow.Author.Needs.{needs}
 use Rattle.ps.specs.Answers.{Extracted}
 use Rattle.ps.specs.declared.UnitAnswer.{UnitAnswer}
 use Rattle.vobsub_c.specs.Answers.{unitRefusal, unitLength, unitJoined, UnitExtracted}
+use Rattle.vobsub_c.proofs.Returned.{unit-returned}
 use Rattle.vobsub_c.proofs.vobsub_extract_spu.Statement.{statement}
 use Rattle.vobsub_c.proofs.vobsub_extract_spu.Tie as tie
 
@@ -13,7 +14,7 @@ use Rattle.vobsub_c.proofs.vobsub_extract_spu.Tie as tie
 given : (f : List ℕ) (p : ℕ) (s s′ : List ℕ) (n j : ℕ) (a b : UnitAnswer) → a ≡ b → Extracted f p s a s′ → UnitExtracted f p s n j (unitRefusal b) s′ (unitLength b n) (unitJoined b j)
 given f p s s′ n j a b e q =
     let h = sym e ∙ q .answer in
-    record { refusal = ap unitRefusal h; long = ap (λ (o : UnitAnswer). unitLength o n) h; where-is = ap (λ (o : UnitAnswer). unitJoined o j) h; stores = q .scratch }
+    record { refusal = ap unitRefusal h; returned = unit-returned _ _ _ _ (ap unitRefusal h); long = ap (λ (o : UnitAnswer). unitLength o n) h; where-is = ap (λ (o : UnitAnswer). unitJoined o j) h; stores = q .scratch }
 
 extract-spu-requires : tie.Need-extract-spu-requires
 extract-spu-requires c κs = search needs

@@ -6,6 +6,7 @@ use borrow.Author.Needs.{needs}
 use Rattle.spu.specs.Answers.{Decoded}
 use Rattle.spu.specs.declared.SpuAnswer.{SpuAnswer}
 use Rattle.vobsub_c.specs.Answers.{spuRefusal, spuRecord, UnitDecoded}
+use Rattle.vobsub_c.proofs.Returned.{spu-returned}
 use Rattle.vobsub_c.proofs.vobsub_parse_and_decode_spu.Statement.{statement}
 use Rattle.vobsub_c.proofs.vobsub_parse_and_decode_spu.Tie as tie
 
@@ -13,7 +14,7 @@ use Rattle.vobsub_c.proofs.vobsub_parse_and_decode_spu.Tie as tie
 given : (u px ws px′ ws′ ns ns′ : List ℕ) (a b : SpuAnswer) → a ≡ b → Decoded u px ws a px′ ws′ → ns′ ≡ spuRecord b ns → UnitDecoded u px ws ns (spuRefusal b) px′ ws′ ns′
 given u px ws px′ ws′ ns ns′ a b e q n =
     let h = sym e ∙ q .answer in
-    record { refusal = ap spuRefusal h; told = n ∙ ap (λ (o : SpuAnswer). spuRecord o ns) h; paints = q .pixels; stores = q .words }
+    record { refusal = ap spuRefusal h; returned = spu-returned _ _ _ _ (ap spuRefusal h); told = n ∙ ap (λ (o : SpuAnswer). spuRecord o ns) h; paints = q .pixels; stores = q .words }
 
 parse-and-decode-spu-requires : tie.Need-parse-and-decode-spu-requires
 parse-and-decode-spu-requires c κs = search needs

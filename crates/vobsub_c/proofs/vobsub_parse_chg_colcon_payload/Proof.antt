@@ -6,6 +6,7 @@ use borrow.Author.Needs.{needs}
 use Rattle.chg_colcon.specs.Answers.{Stored}
 use Rattle.chg_colcon.specs.declared.BandAnswer.{BandAnswer}
 use Rattle.vobsub_c.specs.Answers.{bandRefusal, bandCount, BandsGiven}
+use Rattle.vobsub_c.proofs.Returned.{bands-returned}
 use Rattle.vobsub_c.proofs.vobsub_parse_chg_colcon_payload.Statement.{statement}
 use Rattle.vobsub_c.proofs.vobsub_parse_chg_colcon_payload.Tie as tie
 
@@ -13,7 +14,7 @@ use Rattle.vobsub_c.proofs.vobsub_parse_chg_colcon_payload.Tie as tie
 given : (p ws ws′ : List ℕ) (at n : ℕ) (a b : BandAnswer) → a ≡ b → Stored p at ws a ws′ → BandsGiven p ws at n (bandRefusal b) ws′ (bandCount b n)
 given p ws ws′ at n a b e q =
     let h = sym e ∙ q .answer in
-    record { refusal = ap bandRefusal h; counted = ap (λ (o : BandAnswer). bandCount o n) h; stores = q .words }
+    record { refusal = ap bandRefusal h; returned = bands-returned _ _ _ _ (ap bandRefusal h); counted = ap (λ (o : BandAnswer). bandCount o n) h; stores = q .words }
 
 parse-chg-colcon-payload-requires : tie.Need-parse-chg-colcon-payload-requires
 parse-chg-colcon-payload-requires c κs = search needs

@@ -9,6 +9,7 @@ use borrow.Author.Tests.{eq-eqb, ne-eqb}
 use Rattle.idx.specs.Answers.{IdxRead}
 use Rattle.idx.specs.declared.IdxAnswer.{IdxAnswer}
 use Rattle.vobsub_c.specs.Answers.{idxNumbers, idxRecord, idxPalette, IndexGiven}
+use Rattle.vobsub_c.proofs.Returned.{index-returned}
 use Rattle.vobsub_c.proofs.vobsub_parse_idx.Statement.{statement}
 use Rattle.vobsub_c.proofs.vobsub_parse_idx.Tie as tie
 
@@ -19,6 +20,7 @@ module _ (t : List ℕ) (s s′ : List ℤ) (p p′ px ns : List ℕ) (a : IdxAn
       let y = eq-eqb (a .refused) 0 z in
       record {
         refusal = sym z ∙ ap (λ (o : IdxAnswer). o .refused) (q .answer);
+        returned = index-returned s p t 0 (sym z ∙ ap (λ (o : IdxAnswer). o .refused) (q .answer));
         told = n ∙ sym (ap (λ (b : Bool). cond b (idxNumbers a) ns) y) ∙ ap (λ (o : IdxAnswer). idxRecord o ns) (q .answer);
         colours = sym (ap (λ (b : Bool). cond b (a .palette) px) y) ∙ ap (λ (o : IdxAnswer). idxPalette o px) (q .answer);
         starts-are = q .stored .starts-are;
@@ -31,6 +33,7 @@ module _ (t : List ℕ) (s s′ : List ℤ) (p p′ px ns : List ℕ) (a : IdxAn
       let y = ne-eqb (a .refused) 0 z in
       record {
         refusal = ap (λ (o : IdxAnswer). o .refused) (q .answer);
+        returned = index-returned s p t (a .refused) (ap (λ (o : IdxAnswer). o .refused) (q .answer));
         told = sym (ap (λ (b : Bool). cond b (idxNumbers a) ns) y) ∙ ap (λ (o : IdxAnswer). idxRecord o ns) (q .answer);
         colours = sym (ap (λ (b : Bool). cond b (a .palette) px) y) ∙ ap (λ (o : IdxAnswer). idxPalette o px) (q .answer);
         starts-are = q .stored .starts-are;

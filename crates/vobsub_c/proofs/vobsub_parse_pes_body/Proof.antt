@@ -7,12 +7,13 @@ use mathlib.Core.List.{List}
 use lib.ListN.{length, length-drop}
 use native.Mathlib.Omega.{arith}
 use borrow.Author.Needs.{needs}
-use Rattle.outcome.specs.Outcome.{Res, ok, refuse, no-unit}
+use Rattle.outcome.specs.Outcome.{Res, ok, refuse, no-unit, refusalOf}
 use Rattle.packets.specs.Packets.{bodyAt}
 use Rattle.packets.specs.Answers.{bodyRest, bodyFound}
 use Rattle.packets.proofs.Laws.{body-iff}
 use Rattle.packets.proofs.Shift.{body-refuses}
-use Rattle.vobsub_c.specs.Answers.{bodyRefusal, bodyPlace, BodyFound}
+use Rattle.vobsub_c.specs.Answers.{bodyPlace, BodyFound}
+use Rattle.vobsub_c.proofs.Returned.{body-returned}
 use Rattle.vobsub_c.proofs.vobsub_parse_pes_body.Statement.{statement}
 use Rattle.vobsub_c.proofs.vobsub_parse_pes_body.Tie as tie
 
@@ -23,7 +24,7 @@ module _ (s : List ℕ) where
     where
       go : (u : Res ℕ) → bodyAt s 0 (length s) ≡ u → false ≡ bodyFound u → BodyFound s n no-unit n
       go (ok b) v w = let y : _≡_ {A = ℕ} 0 1 = cc in absurd (omega arith)
-      go (refuse k) v w = record { refusal = sym (ap bodyRefusal v ∙ body-refuses s 0 (length s) k v); place = sym (ap (λ (o : Res ℕ). bodyPlace o n) v) }
+      go (refuse k) v w = let y : no-unit ≡ refusalOf (bodyAt s 0 (length s)) = sym (ap refusalOf v ∙ body-refuses s 0 (length s) k v) in record { refusal = y; returned = body-returned s no-unit y; place = sym (ap (λ (o : Res ℕ). bodyPlace o n) v) }
 
   -- a body, which is not longer than the PES, and its place
   record There (n m : ℕ) : Type 0 where
@@ -39,7 +40,7 @@ module _ (s : List ℕ) where
           let i = body-iff s 0 (length s) c .0 v .within in
           let l : length b ≡ length s - c = ap length w ∙ length-drop c s in
           let p : length s - length b ≡ c = omega arith in
-          record { shorter = omega arith; found = record { refusal = sym (ap bodyRefusal v); place = p ∙ sym (ap (λ (o : Res ℕ). bodyPlace o n) v) } }
+          record { shorter = omega arith; found = record { refusal = sym (ap refusalOf v); returned = body-returned s 0 (sym (ap refusalOf v)); place = p ∙ sym (ap (λ (o : Res ℕ). bodyPlace o n) v) } }
 
 parse-pes-body-requires : tie.Need-parse-pes-body-requires
 parse-pes-body-requires c κs = search needs

@@ -12,6 +12,7 @@ use Rattle.idx.specs.Text.{textOf}
 use Rattle.idx.specs.Answers.{pickOf, cueAnswer}
 use Rattle.idx.specs.declared.CueAnswer.{CueAnswer}
 use Rattle.vobsub_c.specs.Answers.{cueNumbers, cueRecord, cueStart, cuePalette, CueGiven}
+use Rattle.vobsub_c.proofs.Returned.{cue-returned}
 use Rattle.vobsub_c.proofs.vobsub_pick_cue.Statement.{statement}
 use Rattle.vobsub_c.proofs.vobsub_pick_cue.Tie as tie
 
@@ -22,6 +23,7 @@ module _ (t : List ℕ) (n : ℕ) (z : ℤ) (px ns : List ℕ) (a : CueAnswer) (
       let y = eq-eqb (a .refused) 0 e in
       record {
         refusal = sym e ∙ ap (λ (o : CueAnswer). o .refused) q;
+        returned = cue-returned t n 0 (sym e ∙ ap (λ (o : CueAnswer). o .refused) q);
         starts-at = k ∙ sym (ap (λ (b : Bool). cond b (a .start) z) y) ∙ ap (λ (o : CueAnswer). cueStart o z) q;
         told = h ∙ sym (ap (λ (b : Bool). cond b (cueNumbers a) ns) y) ∙ ap (λ (o : CueAnswer). cueRecord o ns) q;
         colours = sym (ap (λ (b : Bool). cond b (a .palette) px) y) ∙ ap (λ (o : CueAnswer). cuePalette o px) q;
@@ -33,6 +35,7 @@ module _ (t : List ℕ) (n : ℕ) (z : ℤ) (px ns : List ℕ) (a : CueAnswer) (
       let y = ne-eqb (a .refused) 0 e in
       record {
         refusal = ap (λ (o : CueAnswer). o .refused) q;
+        returned = cue-returned t n (a .refused) (ap (λ (o : CueAnswer). o .refused) q);
         starts-at = sym (ap (λ (b : Bool). cond b (a .start) z) y) ∙ ap (λ (o : CueAnswer). cueStart o z) q;
         told = sym (ap (λ (b : Bool). cond b (cueNumbers a) ns) y) ∙ ap (λ (o : CueAnswer). cueRecord o ns) q;
         colours = sym (ap (λ (b : Bool). cond b (a .palette) px) y) ∙ ap (λ (o : CueAnswer). cuePalette o px) q;

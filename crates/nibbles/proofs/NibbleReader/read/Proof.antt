@@ -44,7 +44,7 @@ use denote.Triple.Spec.{Meets, tripleOf}
 use denote.Triple.Table.{entered, cited}
 use denote.Triple.Walked.{says, Stays, stay-ref, walkOf, goes-ref, Walks, ends-at, walked, walk-meets}
 use denote.Triple.Clauses.{ensured, lasts}
-use Rattle.nibbles.specs.Nibbles.{nibbleAt, pastNibble}
+use Rattle.nibbles.specs.Nibbles.{nibbleAt, nibbleAnswer, pastNibble}
 use Rattle.nibbles.specs.declared.NibbleReader.{NibbleReader}
 use Rattle.nibbles.specs.declared.Nibble.{Nibble}
 use Rattle.nibbles.proofs.NibbleReader as T
@@ -101,7 +101,7 @@ module _ {M : Type 1} (𝓤 : URA M) (H : Heap 𝓤) (A : Atoms 𝓤) (W : Given
   v = sliceVal (h .buf .ptr) (length (h .buf .now))
 
   abbrev found : Nibble
-  found = nibbleAt (now (h .buf)) (h .pos)
+  found = nibbleAnswer (nibbleAt (now (h .buf)) (h .pos))
 
   abbrev next : ℕ
   next = pastNibble (now (h .buf)) (h .pos)

@@ -1,9 +1,9 @@
--- `list_files::list_title` is safe and ends: each part that is lent is within its array. Assumes nothing.
+-- `list::list_title` is safe and ends: each part that is lent is within its array. Assumes nothing.
 use mathlib.Core.Path.{refl}
 use Rattle.listing.proofs.Laws.{written-within, written-part}
 use borrow.Author.Needs.{needs}
-use Rattle.list_files.proofs.list_title.Statement.{statement}
-use Rattle.list_files.proofs.list_title.Tie as tie
+use Rattle.list.proofs.list_title.Statement.{statement}
+use Rattle.list.proofs.list_title.Tie as tie
 
 slice-aggregate-read-file : tie.Need-slice-aggregate-read-file
 slice-aggregate-read-file c = search needs

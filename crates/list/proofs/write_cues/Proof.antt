@@ -1,12 +1,12 @@
--- `list_files::write_cues` is safe and ends: a turn for each cue, and the line keeps its length. Assumes nothing.
+-- `list::write_cues` is safe and ends: a turn for each cue, and the line keeps its length. Assumes nothing.
 use Prim.Native.Nat.{_≤_, _-_}
 use native.Mathlib.Omega.{arith}
 use mathlib.Core.Path.{_≡_}
 use lib.ListN.{length}
 use Rattle.listing.proofs.Laws.{written-long, written-within, written-part}
 use borrow.Author.Needs.{needs}
-use Rattle.list_files.proofs.write_cues.Statement.{statement}
-use Rattle.list_files.proofs.write_cues.Tie as tie
+use Rattle.list.proofs.write_cues.Statement.{statement}
+use Rattle.list.proofs.write_cues.Tie as tie
 
 abbrev Inv-loop : tie.InvT-loop
 Inv-loop file starts positions cues scratch₀ line₀ n₀ scratch line n = (n ≤ cues) × (length line ≡ 256)

@@ -1,8 +1,8 @@
--- `list_rows::main` is safe and ends: there are at most 1,000 arguments. Assumes nothing.
+-- `list::list_arguments` is safe and ends: there are at most 1,000 arguments. Assumes nothing.
 use Prim.Native.Nat.{_≤_, _-_}
 use borrow.Author.Needs.{needs}
-use Rattle.list_rows.proofs.main.Statement.{statement}
-use Rattle.list_rows.proofs.main.Tie as tie
+use Rattle.list.proofs.list_arguments.Statement.{statement}
+use Rattle.list.proofs.list_arguments.Tie as tie
 
 abbrev Inv-loop : tie.InvT-loop
 Inv-loop k₀ k = k ≤ 1002
@@ -37,8 +37,8 @@ loop-again c = search needs
 returns-2 : tie.Need-returns-2 Inv-loop μ-loop
 returns-2 c = search needs
 
-pub main-spec : {M : Type 1} → statement M
-main-spec =
+pub list-arguments-spec : {M : Type 1} → statement M
+list-arguments-spec =
     tie.close
     (tie.spec
     Inv-loop

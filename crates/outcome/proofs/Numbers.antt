@@ -1,0 +1,70 @@
+-- A refusal has a number of the table where each part of its definition has one. Assumes nothing.
+use Prim.Native.Nat.{ℕ, zero, suc, _≤_, _<_}
+use native.Mathlib.Omega.{arith}
+use mathlib.Core.Path.{_≡_, refl, sym, subst}
+use mathlib.Core.Bool.{Bool, true, false, cond}
+use mathlib.Core.Option.{Option, some, none}
+use mathlib.Core.List.{List, []}
+use lib.Dec.{leb}
+use borrow.Author.Tests.{leb-true}
+use Rattle.outcome.specs.Outcome.{Res, ok, refuse, check, need, andThen, consRes, mapRes, InTable, Numbered, refusalOf, Returned}
+use Rattle.outcome.specs.Lists.{listFuel, listFrom}
+
+pub in-table : (n : ℕ) → leb 1 n ≡ true → leb n 31 ≡ true → InTable n
+in-table n h k = (leb-true 1 n h, leb-true n 31 k)
+
+pub check-numbered : {A : Type 0} (t : Bool) (n : ℕ) (r : Res A) → InTable n → Numbered r → Numbered (check t n r)
+check-numbered true n r h k = k
+check-numbered false n r h k = h
+
+-- where what follows is asked only after the test
+pub checked-numbered : {A : Type 0} (t : Bool) (n : ℕ) (r : Res A) → InTable n → (t ≡ true → Numbered r) → Numbered (check t n r)
+checked-numbered true n r h k = k refl
+checked-numbered false n r h k = h
+
+pub cond-numbered : {A : Type 0} (t : Bool) (a b : Res A) → Numbered a → Numbered b → Numbered (cond t a b)
+cond-numbered true a b h k = h
+cond-numbered false a b h k = k
+
+pub need-numbered : {A : Type 0} (n : ℕ) (o : Option A) → InTable n → Numbered (need n o)
+need-numbered n (some a) h = tt
+need-numbered n none h = h
+
+pub andThen-numbered : {A B : Type 0} (r : Res A) (k : A → Res B) → Numbered r → ((a : A) → Numbered (k a)) → Numbered (andThen r k)
+andThen-numbered (ok a) k h g = g a
+andThen-numbered (refuse n) k h g = h
+
+pub consRes-numbered : {A : Type 0} (a : A) (r : Res (List A)) → Numbered r → Numbered (consRes a r)
+consRes-numbered a (ok l) h = tt
+consRes-numbered a (refuse n) h = h
+
+pub mapRes-numbered : {A B : Type 0} (f : A → B) (r : Res A) → Numbered r → Numbered (mapRes f r)
+mapRes-numbered f (ok a) h = tt
+mapRes-numbered f (refuse n) h = h
+
+-- what is refused with one number of the table only
+pub only-numbered : {A : Type 0} (n : ℕ) → InTable n → (r : Res A) → ((k : ℕ) → r ≡ refuse k → k ≡ n) → Numbered r
+only-numbered n h (ok a) g = tt
+only-numbered n h (refuse k) g = subst InTable (sym (g k refl)) h
+
+-- a list, where each item that is asked for is
+module _ {S A : Type 0} (stop : S → Bool) (item : S → Res A) (next : S → A → S) (left : S → ℕ) (falls : (s : S) (a : A) → stop s ≡ false → item s ≡ ok a → left (next s a) < left s) (each : (s : S) → stop s ≡ false → Numbered (item s)) where
+  fuel-numbered : (f : ℕ) (s : S) → left s < f → Numbered (listFuel stop item next f s)
+  unfolding listFuel
+  fuel-numbered zero s h = absurd (omega arith)
+  fuel-numbered (suc f) s h = go (λ x p. fuel-numbered f (next s x) p) (stop s) (item s) refl refl (each s)
+    where
+      go : ((x : A) → left (next s x) < f → Numbered (listFuel stop item next f (next s x))) → (b : Bool) (r : Res A) → stop s ≡ b → item s ≡ r → (stop s ≡ false → Numbered (item s))
+          → Numbered (cond b (ok []) (andThen r (λ a. consRes a (listFuel stop item next f (next s a)))))
+      go i true r p q g = tt
+      go i false (refuse n) p q g = subst Numbered q (g p)
+      go i false (ok a) p q g = let z = falls s a p q in consRes-numbered a (listFuel stop item next f (next s a)) (i a (omega arith))
+
+  pub list-numbered : (s : S) → Numbered (listFrom stop item next left s)
+  unfolding listFrom
+  list-numbered s = fuel-numbered (suc (left s)) s (omega arith)
+
+-- so 0 is returned where nothing is refused, and no number outside the table
+pub returned : {A : Type 0} (x : Res A) (r : ℕ) → Numbered x → r ≡ refusalOf x → Returned x r
+returned (ok a) r h e = record { in-table = omega (arith, e); accepted = λ z. tt }
+returned (refuse n) r h e = record { in-table = omega (arith, e, h .1); accepted = λ z. absurd (omega (arith, e, z, h .0)) }

@@ -1,0 +1,98 @@
+-- The number that each answer returns is its definition's, and so one of the table, or 0 where nothing is refused. Assumes nothing.
+use Prim.Native.Nat.{ℕ}
+use mathlib.Core.Path.{_≡_, refl, _∙_}
+use mathlib.Core.List.{List}
+use lib.IntN.{ℤ}
+use lib.ListN.{length}
+use Rattle.outcome.specs.Outcome.{Res, ok, refuse, refusalOf, Returned, no-unit}
+use Rattle.outcome.proofs.Numbers.{in-table, only-numbered, returned}
+use Rattle.grammar.specs.Index.{Said}
+use Rattle.grammar.specs.Picture.{ListedUnit}
+use Rattle.grammar.specs.Packets.{Form, bare, packets, subpicture}
+use Rattle.grammar.specs.Reading.{Reading, wanted}
+use Rattle.grammar.specs.Rows.{Code}
+use Rattle.chg_colcon.specs.Answers.{countOf, stored}
+use Rattle.chg_colcon.proofs.Claim.{stored-numbered}
+use Rattle.packets.specs.Packets.{bodyAt}
+use Rattle.packets.proofs.Shift.{body-refuses}
+use Rattle.ps.specs.Unit.{unitAt}
+use Rattle.ps.specs.Answers.{unitGiven}
+use Rattle.ps.proofs.Claim as ps
+use Rattle.rle.specs.Field.{decoded}
+use Rattle.rle.specs.Answers.{fieldAnswer}
+use Rattle.rle.proofs.Claim.{decoded-numbered}
+use Rattle.spu.specs.Unit.{unitIn}
+use Rattle.spu.specs.Answers.{spuAnswer}
+use Rattle.spu.proofs.Numbers.{unit-numbered}
+use Rattle.demo.specs.Unit.{demoAt}
+use Rattle.demo.specs.Answers.{demoGiven}
+use Rattle.demo.proofs.Numbers.{demo-numbered}
+use Rattle.idx.specs.Text.{textOf}
+use Rattle.idx.specs.Answers.{linesWith, idxAnswer, Picked, pickOf, cueAnswer}
+use Rattle.idx.proofs.Claim.{text-numbered, pick-numbered}
+use Rattle.vobsub.specs.Call.{Lent, readingIn}
+use Rattle.vobsub.specs.Answers.{canvasAnswer}
+use Rattle.vobsub.proofs.Numbers.{reading-numbered}
+use Rattle.vobsub_c.specs.Answers.{bandRefusal, unitRefusal, fieldRefusal, spuRefusal, demoRefusal, canvasRefusal}
+
+pub bands-returned : (s : List ℕ) (at : ℕ) (ws : List ℕ) (r : ℕ) → r ≡ bandRefusal (countOf 0 (stored s at ws)) → Returned (stored s at ws) r
+bands-returned s at ws r e = returned (stored s at ws) r (stored-numbered s at ws) (e ∙ go (stored s at ws))
+  where
+    go : (x : Res (List ℕ)) → bandRefusal (countOf 0 x) ≡ refusalOf x
+    go (ok v) = refl
+    go (refuse n) = refl
+
+pub body-returned : (s : List ℕ) (r : ℕ) → r ≡ refusalOf (bodyAt s 0 (length s)) → Returned (bodyAt s 0 (length s)) r
+body-returned s r e = returned (bodyAt s 0 (length s)) r (only-numbered no-unit (in-table no-unit refl refl) (bodyAt s 0 (length s)) (body-refuses s 0 (length s))) e
+
+pub unit-returned : (f : List ℕ) (p n r : ℕ) → r ≡ unitRefusal (unitGiven (unitAt subpicture f p n)) → Returned (unitAt subpicture f p n) r
+unit-returned f p n r e = returned (unitAt subpicture f p n) r (ps.unit-numbered f p n) (e ∙ go (unitAt subpicture f p n))
+  where
+    go : (x : Res Form) → unitRefusal (unitGiven x) ≡ refusalOf x
+    go (ok (bare u)) = refl
+    go (ok (packets l)) = refl
+    go (refuse k) = refl
+
+pub field-returned : (s : List ℕ) (w h start : ℕ) (px : List ℕ) (r : ℕ) → r ≡ fieldRefusal (fieldAnswer w (decoded s w h start px)) → Returned (decoded s w h start px) r
+field-returned s w h start px r e = returned (decoded s w h start px) r (decoded-numbered s w h start px) (e ∙ go (decoded s w h start px))
+  where
+    go : (x : Res (List (List Code))) → fieldRefusal (fieldAnswer w x) ≡ refusalOf x
+    go (ok rs) = refl
+    go (refuse n) = refl
+
+pub spu-returned : (u : List ℕ) (n m r : ℕ) → r ≡ spuRefusal (spuAnswer (unitIn u n m)) → Returned (unitIn u n m) r
+spu-returned u n m r e = returned (unitIn u n m) r (unit-numbered u n m) (e ∙ go (unitIn u n m))
+  where
+    go : (x : Res ListedUnit) → spuRefusal (spuAnswer x) ≡ refusalOf x
+    go (ok l) = refl
+    go (refuse k) = refl
+
+pub demo-returned : (w h : ℕ) (px : List ℕ) (n r : ℕ) → r ≡ demoRefusal (demoGiven (demoAt w h px n)) → Returned (demoAt w h px n) r
+demo-returned w h px n r e = returned (demoAt w h px n) r (demo-numbered w h px n) (e ∙ go (demoAt w h px n))
+  where
+    go : (x : Res (List ℕ)) → demoRefusal (demoGiven x) ≡ refusalOf x
+    go (ok u) = refl
+    go (refuse k) = refl
+
+pub index-returned : (starts : List ℤ) (positions text : List ℕ) (r : ℕ) → r ≡ idxAnswer (linesWith starts positions text) .refused → Returned (linesWith starts positions text) r
+unfolding idxAnswer
+index-returned starts positions text r e = returned (linesWith starts positions text) r (text-numbered _ text) (e ∙ go (linesWith starts positions text))
+  where
+    go : (x : Res (List Said)) → idxAnswer x .refused ≡ refusalOf x
+    go (ok ls) = refl
+    go (refuse n) = refl
+
+pub cue-returned : (text : List ℕ) (n r : ℕ) → r ≡ cueAnswer (pickOf (textOf text) n) .refused → Returned (pickOf (textOf text) n) r
+unfolding cueAnswer
+cue-returned text n r e = returned (pickOf (textOf text) n) r (pick-numbered text n) (e ∙ go (pickOf (textOf text) n))
+  where
+    go : (x : Res Picked) → cueAnswer x .refused ≡ refusalOf x
+    go (ok p) = refl
+    go (refuse k) = refl
+
+pub canvas-returned : (text file : List ℕ) (n : ℕ) (b : Lent) (r : ℕ) → r ≡ canvasRefusal (canvasAnswer (readingIn text file (wanted n) b)) → Returned (readingIn text file (wanted n) b) r
+canvas-returned text file n b r e = returned (readingIn text file (wanted n) b) r (reading-numbered text file (wanted n) b) (e ∙ go (readingIn text file (wanted n) b))
+  where
+    go : (x : Res Reading) → canvasRefusal (canvasAnswer x) ≡ refusalOf x
+    go (ok y) = refl
+    go (refuse k) = refl
