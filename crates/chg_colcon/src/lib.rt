@@ -327,7 +327,7 @@ pub fn parse_chg_colcon_payload(payload: &[u8], words: &mut [u16], at: usize) ->
 }
 
 // The same of bands that were counted before and for which there is room: they are not counted again.
-// Ruled out: the same as there.
+// Ruled out: words before `at` or behind the last one changed; words counted that are not stored.
 pub fn store_words(payload: &[u8], words: &mut [u16], at: usize) -> BandAnswer
     requires { ⌜ (IsOk (bandsOf (now payload))) × (at + length (listed (bandsOf (now payload))) ≤ length (now words)) ⌝ }
     ensures { λ r. ⌜ Stored (now (payload .entry)) at (now (words .entry)) r (now (words .exit)) ⌝ }

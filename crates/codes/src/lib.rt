@@ -32,35 +32,35 @@ pub enum CodeAnswer {
 pub fn read_code(field: &[u8], c: Cursor) -> CodeAnswer
     ensures { λ r. ⌜ r ≡ codeAnswer (codeAt (now (field .entry)) (length (now (field .entry))) (c .pos)) ⌝ }
 {
-    let mut pos = c.pos;
+    let at = c.pos;
     let mut value: usize = 0;
     let mut size: usize = 0;
     // 4 to the power of size: what a code of so many nibbles makes at least
     let mut least: usize = 1;
     while size < 4 {
-        match read_through(field, pos) {
+        match read_through(field, at + size) {
             Nibble::Refused(number) => {
                 return CodeAnswer::Refused(number);
             }
             Nibble::Is(n) => {
-                value = value * 16 + n as usize;
+                value = value * 16 + n;
             }
         }
-        pos += 1;
         size += 1;
         least *= 4;
+        let end = at + size;
         if least <= value {
             return CodeAnswer::Got {
                 size,
                 value,
-                next: Cursor { pos },
+                next: Cursor { pos: end },
             };
         }
         if size == 4 {
             return CodeAnswer::Got {
                 size,
                 value,
-                next: Cursor { pos },
+                next: Cursor { pos: end },
             };
         }
     }

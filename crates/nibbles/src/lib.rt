@@ -7,7 +7,7 @@ ghost use Rattle.nibbles.specs.Nibbles.{nibbleAt, nibbleAnswer, pastNibb
 // What reading a nibble finds.
 pub enum Nibble {
     // The nibble, 0 to 15.
-    Is(u8),
+    Is(usize),
     // The number of the refusal.
     Refused(u8),
 }
@@ -19,7 +19,7 @@ pub struct NibbleReader<'a> {
 }
 
 // The nibble at half byte pos, or 26 where the field ran out.
-// Ruled out: a nibble past the field's end; another refusal than 26.
+// Ruled out: the low half of a byte first; a nibble past the field's end.
 pub fn nibble_at(field: &[u8], pos: usize) -> Nibble
     ensures { λ r. ⌜ r ≡ nibbleAnswer (nibbleAt (now (field .entry)) pos) ⌝ }
 {
@@ -27,10 +27,12 @@ pub fn nibble_at(field: &[u8], pos: usize) -> Nibble
     if field.len() <= i {
         return Nibble::Refused(FIELD_RAN_OUT);
     }
+    // widened at once: a nibble that is a byte costs its readers more (docs/DECISIONS.md)
+    let b = field[i] as usize;
     if pos % 2 == 0 {
-        return Nibble::Is(field[i] / 16);
+        return Nibble::Is(b / 16);
     }
-    Nibble::Is(field[i] % 16)
+    Nibble::Is(b % 16)
 }
 
 // The count after a read at pos: the next one where there is a nibble, and pos itself where the field ran out.

@@ -103,7 +103,7 @@ fn nibble(field: &[u8], pos: usize) {
     match nibbles::read_through(field, pos) {
         Nibble::Is(n) => {
             io::write_all(STDOUT_FILENO, b" nibble ");
-            number(n as usize);
+            number(n);
         }
         Nibble::Refused(n) => {
             io::write_all(STDOUT_FILENO, b" refused ");
