@@ -1,5 +1,5 @@
-/* The functions of libvobsub_c.a, for C. Each returns 0 where it accepts, and otherwise the number of a refusal, 1 to 31 (docs/FORMAT.md,
-   section 9). */
+/* The functions of libvobsub_c.a, for C. Each returns 0 where it accepts, and otherwise the number of a refusal: the numbers, what each
+   means and the order in which they are tried are in docs/FORMAT.md, section 9 (`refusals` in crates/outcome). */
 #ifndef VOBSUB_H
 #define VOBSUB_H
 

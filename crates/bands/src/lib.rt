@@ -1,7 +1,8 @@
 // The bands of all colour changes of a unit whose control blocks were read before, stored as words (docs/FORMAT.md, 3.6 and 4.5).
-use chg_colcon::BandAnswer;
+use bands_model::BandAnswer;
 use control::taken;
 use control::word_at;
+use control_model::Place;
 ghost use mathlib.Core.Path.{_≡_};
 ghost use mathlib.Core.List.{List};
 ghost use mathlib.Core.Option.{some};
@@ -11,14 +12,8 @@ ghost use lib.Seq.{sets};
 ghost use Rattle.outcome.specs.Outcome.{ok, IsOk};
 ghost use Rattle.grammar.specs.Bytes.{byte};
 ghost use Rattle.grammar.specs.Control.{Order, Command, Block};
-ghost use Rattle.control.specs.Chain.{changeAt, orderAt, commandsAt, blocksAt, controlAt};
-ghost use Rattle.bands.specs.Fill.{orderWords, blockWords, chainWords, unitWords, OrderFilled, Filled};
-
-// Where reading commands and storing words stand.
-struct Place {
-    at: usize,
-    to: usize,
-}
+ghost use Rattle.control_model.specs.Chain.{changeAt, orderAt, commandsAt, blocksAt, controlAt};
+ghost use Rattle.control_model.specs.Fill.{orderWords, blockWords, chainWords, unitWords, OrderFilled, Filled};
 
 // The bands of a colour change that was read before, its size word at p, stored from place `to` on.
 fn fill_change(unit: &[u8], end: usize, p: usize, words: &mut [u16], to: usize) -> Place

@@ -13,37 +13,37 @@ use Rattle.grammar.specs.Pixels.{rowPixels, codesIn, indexMap}
 use Rattle.grammar.specs.Record.{untold, tellBlock, tellChain}
 use Rattle.grammar.specs.Picture.{topEnd}
 use Rattle.grammar.specs.Packets.{joined, unitOf}
-use Rattle.packets.specs.Packets.{leading, header1At, headerAt, bodyAt, keptAt, packAt, privateAt, kindAt, packetAt}
-use Rattle.ps.specs.Packets.{packetsAt, isBare, formAt}
-use Rattle.codes.specs.Codes.{codeFrom, codeAt, rowAt, fieldAt}
-use Rattle.rle.specs.Field.{rowsFrom, paintField, decoded}
-use Rattle.rle.specs.Answers.{rowCounts, fieldCounts}
-use Rattle.fields.specs.Fields.{weave, lowerAt, fieldsAt}
-use Rattle.control.specs.Chain.{plainAt, changeAt, orderAt, commandAt, commandsAt, blockAt, blocksAt, headFits, chainAt, controlAt}
+use Rattle.ps_model.specs.OnePacket.{leading, header1At, headerAt, bodyAt, keptAt, packAt, privateAt, kindAt, packetAt}
+use Rattle.ps_model.specs.Packets.{packetsAt, isBare, formAt}
+use Rattle.rle_model.specs.Codes.{codeFrom, codeAt, rowAt, fieldAt}
+use Rattle.rle_model.specs.Field.{rowsFrom, paintField, decoded}
+use Rattle.rle_model.specs.Answers.{rowCounts, fieldCounts}
+use Rattle.rle_model.specs.Fields.{weave, lowerAt, fieldsAt}
+use Rattle.control_model.specs.Chain.{plainAt, changeAt, orderAt, commandAt, commandsAt, blockAt, blocksAt, headFits, chainAt, controlAt}
 use Rattle.grammar.specs.Bands.{entryWords, bandWords}
-use Rattle.control.specs.Answers.{spuOf}
-use Rattle.spu.specs.Unit.{rowsAt, unitAt}
+use Rattle.control_model.specs.Answers.{spuOf}
+use Rattle.spu_model.specs.Unit.{rowsAt, unitAt}
 use Rattle.grammar.specs.IndexNumbers.{numeral}
 use Rattle.grammar.specs.Index.{startOf}
-use Rattle.idx_numbers.specs.Parts.{front, rest, all, shorn, trim, split, strip}
-use Rattle.idx_numbers.specs.Times.{checked}
-use Rattle.idx_numbers.specs.Numbers.{unsigned, signed, bare}
+use Rattle.idx_numbers_model.specs.Parts.{front, rest, all, shorn, trim, split, strip}
+use Rattle.idx_numbers_model.specs.Times.{checked}
+use Rattle.idx_numbers_model.specs.Numbers.{unsigned, signed, bare}
 use Rattle.grammar.specs.IndexCues.{cuesOf, cueAt, durationOf}
-use Rattle.idx_lines.specs.Lines.{steps, firstOf, lastOf, partsAt}
-use Rattle.idx.specs.Text.{linesIn, textIn}
-use Rattle.listing.specs.Lines.{digitsIn, decimal, shownLine, refusedLine, cuesLine, fileLine}
-use Rattle.listing.specs.Title.{unitFor, shownFor, readable, cuesIn, cueLines, titleLines}
-use Rattle.idx_lines.specs.Lines as text-lines
-use Rattle.idx_lines.specs.Answers.{timeAt}
+use Rattle.idx_lines_model.specs.Lines.{steps, firstOf, lastOf, partsAt}
+use Rattle.idx_model.specs.Text.{linesIn, textIn}
+use Rattle.listing_model.specs.Lines.{digitsIn, decimal, shownLine, refusedLine, cuesLine, fileLine}
+use Rattle.listing_model.specs.Title.{unitFor, shownFor, readable, cuesIn, cueLines, titleLines}
+use Rattle.idx_lines_model.specs.Lines as text-lines
+use Rattle.idx_lines_model.specs.Answers.{timeAt}
 use Rattle.grammar.specs.Picture.{evens}
-use Rattle.demo.specs.Codes.{runs, cut, marksOf, digits, nibblesOf, packed, pictureRows, fieldNibbles}
-use Rattle.demo.specs.Unit.{allColours, pictureOk, sizedUnit, demoAt}
-use Rattle.demo.specs.Unit as demo
+use Rattle.demo_model.specs.Codes.{runs, cut, marksOf, digits, nibblesOf, packed, pictureRows, fieldNibbles}
+use Rattle.demo_model.specs.Unit.{allColours, pictureOk, sizedUnit, demoAt}
+use Rattle.demo_model.specs.Unit as demo
 use native.Mathlib.Omega.{arith}
 use Rattle.grammar.specs.Reading.{wanted, wordsOf}
 use Rattle.grammar.proofs.Readings as readings
-use Rattle.vobsub.specs.Call.{lent}
-use Rattle.vobsub.proofs.Claim.{reading-iff}
+use Rattle.vobsub_model.specs.Call.{lent}
+use Rattle.vobsub_model.proofs.Claim.{reading-iff}
 use Rattle.cards.specs.Table.{Card, code, reader, field, fields, unit, found, held, written, upper, position, start, stamped, hours-stand, hours-leave, small-text, small-file, small-cue, small-shown, shows, cue, title, small-title, small-painted, bytes, lines, table}
 
 abbrev gotOf : List Card → List (List ℕ)

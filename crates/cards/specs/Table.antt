@@ -10,10 +10,10 @@ use Rattle.outcome.specs.Outcome.{Res, ok, refuse, need, listed, bad-position}
 use Rattle.grammar.specs.IndexParts.{colon}
 use Rattle.grammar.specs.IndexCues.{Cue}
 use Rattle.grammar.specs.Reading.{wanted, Shown, shown, canvasOf}
-use Rattle.idx_numbers.specs.Numbers.{positionOf}
-use Rattle.idx_numbers.specs.Parts.{split}
-use Rattle.idx_lines.specs.Lines.{timestampOf}
-use Rattle.idx_lines.specs.Answers.{timeAt}
+use Rattle.idx_numbers_model.specs.Numbers.{positionOf}
+use Rattle.idx_numbers_model.specs.Parts.{split}
+use Rattle.idx_lines_model.specs.Lines.{timestampOf}
+use Rattle.idx_lines_model.specs.Answers.{timeAt}
 use Rattle.grammar.specs.Parts.{Part}
 use Rattle.grammar.specs.Index.{Said, size, palette, timestamp, startOf}
 use Rattle.grammar.specs.Rows.{colour, paints}
@@ -21,23 +21,23 @@ use Rattle.grammar.specs.Pixels.{codesIn, indexMap}
 use Rattle.grammar.specs.Control.{forced-start, stop, selectors, alphas, area, offsets, colours, Block}
 use Rattle.grammar.specs.Packets.{subpicture, unitOf}
 use Rattle.grammar.specs.Record.{told, delayOf, width, height}
-use Rattle.codes.specs.Codes.{codeAt}
-use Rattle.nibbles.specs.Nibbles.{nibbleAt, nibbleAnswer, pastNibble, onByte}
-use Rattle.nibbles.specs.declared.Nibble.{Nibble}
-use Rattle.nibbles.specs.declared.Nibble.the-variants.{Is, Refused}
-use Rattle.rle.specs.Field.{decoded, paintField}
-use Rattle.rle.specs.Answers.{fieldCounts}
-use Rattle.control.specs.Chain.{command}
-use Rattle.control.specs.Answers.{spuOf}
-use Rattle.control.specs.declared.Spu.{Spu}
-use Rattle.ps.specs.Packets.{formAt}
-use Rattle.spu.specs.Unit.{unitAt}
-use Rattle.vobsub.specs.Call.{Lent, lent, readingIn}
-use Rattle.listing.specs.Lines.{refusedLine}
-use Rattle.listing.specs.Lines as line
-use Rattle.listing.specs.Title.{unitFor, titleLines}
-use Rattle.demo.specs.Codes.{lastMarks, packed}
-use Rattle.demo.specs.Unit.{topNibbles, demoAt}
+use Rattle.rle_model.specs.Codes.{codeAt}
+use Rattle.rle_model.specs.Nibbles.{nibbleAt, nibbleAnswer, pastNibble, onByte}
+use Rattle.rle_model.specs.declared.Nibble.{Nibble}
+use Rattle.rle_model.specs.declared.Nibble.the-variants.{Is, Refused}
+use Rattle.rle_model.specs.Field.{decoded, paintField}
+use Rattle.rle_model.specs.Answers.{fieldCounts}
+use Rattle.control_model.specs.Chain.{command}
+use Rattle.control_model.specs.Answers.{spuOf}
+use Rattle.control_model.specs.declared.Spu.{Spu}
+use Rattle.ps_model.specs.Packets.{formAt}
+use Rattle.spu_model.specs.Unit.{unitAt}
+use Rattle.vobsub_model.specs.Call.{Lent, lent, readingIn}
+use Rattle.listing_model.specs.Lines.{refusedLine}
+use Rattle.listing_model.specs.Lines as line
+use Rattle.listing_model.specs.Title.{unitFor, titleLines}
+use Rattle.demo_model.specs.Codes.{lastMarks, packed}
+use Rattle.demo_model.specs.Unit.{topNibbles, demoAt}
 
 pub record Card : Type 0 where
   pub got : List ℕ

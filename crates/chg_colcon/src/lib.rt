@@ -1,39 +1,17 @@
 // Colour bands: the lines and columns of a picture that have colours of their own (docs/FORMAT.md, section 4).
 // They are read from the bytes after a colour change's size word and stored as words, 3 + 3n for a band of n entries.
+use bands_model::BandAnswer;
+use bands_model::EntryRead;
+use bands_model::Header;
+use bands_model::Stop;
 use outcome::NO_BAND_LIST;
 use outcome::SHORT_WORDS;
 ghost use mathlib.Core.Path.{_≡_};
-ghost use Prim.Native.Nat.{ℕ, _≤_, _<_, _-_, _+_, _*_, _^_, min};
-ghost use lib.ListN.{length, getD, drop, set};
-ghost use Rattle.chg_colcon.specs.Bands.{wordOf, header, headOf, entryOf, bandsOf, entriesOf};
+ghost use Prim.Native.Nat.{_≤_, _<_, _-_, _+_, _*_, _^_};
+ghost use lib.ListN.{length, drop, set};
+ghost use Rattle.bands_model.specs.Bands.{wordOf, header, headOf, entryOf, bandsOf, entriesOf};
 ghost use Rattle.outcome.specs.Outcome.{listed, IsOk};
-ghost use Rattle.chg_colcon.specs.Answers.{countOf, Stored, restOf, Goes, Ahead, ListRead};
-
-// What a list of bands gives.
-pub enum BandAnswer {
-    // How many words its bands take.
-    Words(usize),
-    // The number of the refusal.
-    Refused(u8),
-}
-
-// What stands where a band's header may stand.
-enum Header {
-    // The end of the list.
-    End,
-    // No header.
-    Bad,
-    // First line, last line, number of entries.
-    Band(u16, u16, u16),
-}
-
-// What stands where an entry must stand.
-enum EntryRead {
-    // No entry, or one that starts too far left.
-    Bad,
-    // Column, selectors, alphas.
-    Got(u16, u16, u16),
-}
+ghost use Rattle.bands_model.specs.Answers.{countOf, Stored, restOf, Goes, Ahead, ListRead};
 
 fn word(a: u8, b: u8) -> u16
     ensures { λ r. ⌜ r ≡ wordOf a b ⌝ }
@@ -87,22 +65,6 @@ fn read_entry(p: &[u8], lo: u32) -> EntryRead
 
 // The readers below call each other at most so often before they hand back, which bounds the stack they take.
 const DEEPEST: usize = 4;
-
-// Where the header and entry readers stop.
-enum Stop {
-    // At the end of the list: the place after its last word.
-    End(usize),
-    // Where there is no list.
-    Bad,
-    // After `DEEPEST` calls: the bytes to go, the entries to go of a band (0 where a header is next), the least column of the next, and the
-    // place after the last word.
-    More {
-        rest: usize,
-        left: u16,
-        lo: u32,
-        at: usize,
-    },
-}
 
 // A word stored at a place, where there is room for it.
 fn put(out: &mut [u16], at: usize, word: u16)

@@ -2,10 +2,10 @@
 // after it in hexadecimal, with `.` for a word that is as found. Then looks places up, and writes the selectors and alphas there.
 // A line of standard input is a row: `store`, `look` or `across`, its name, the place and the number of words or the column and the line,
 // and the payload.
-use chg_colcon::BandAnswer;
+use bands_model::BandAnswer;
+use bands_model::LookAnswer;
 use libc::STDIN_FILENO;
 use libc::STDOUT_FILENO;
-use look::LookAnswer;
 
 const FOUND: u16 = 0xEEEE;
 

@@ -1,31 +1,16 @@
 // The code at a place of a field, read nibble by nibble through a reader, and what it paints of a row (docs/FORMAT.md, section 5).
-use nibbles::Nibble;
 use nibbles::read_through;
 use outcome::FIELD_RAN_OUT;
 use outcome::lesser;
+use rle_model::CodeAnswer;
+use rle_model::Cursor;
+use rle_model::Nibble;
 ghost use mathlib.Core.Path.{_≡_};
 ghost use Prim.Native.Nat.{ℕ};
 ghost use lib.ListN.{length};
 ghost use Rattle.grammar.specs.Rows.{code, paints};
-ghost use Rattle.codes.specs.Codes.{codeAt};
-ghost use Rattle.codes.specs.Answers.{codeAnswer};
-
-// A half-byte count over a field's bytes.
-pub struct Cursor {
-    pub pos: usize,
-}
-
-// What reading a code finds.
-pub enum CodeAnswer {
-    // A code of `size` nibbles that make `value`, and the place after it.
-    Got {
-        size: usize,
-        value: usize,
-        next: Cursor,
-    },
-    // The number of the refusal.
-    Refused(u8),
-}
+ghost use Rattle.rle_model.specs.Codes.{codeAt};
+ghost use Rattle.rle_model.specs.CodeAnswers.{codeAnswer};
 
 // The code at a place: the first number of nibbles that makes a number large enough for it, four at most (FORMAT 5.2).
 // Ruled out: a place past the end taken for a fill; a longer code where a shorter one stands.

@@ -1,6 +1,9 @@
 // The control blocks of a unit: a chain of blocks whose commands say when, where and in which colours its picture is shown
 // (docs/FORMAT.md, section 3). What they say is told in one record.
-use chg_colcon::BandAnswer;
+use bands_model::BandAnswer;
+use control_model::CommandAnswer;
+use control_model::ControlAnswer;
+use control_model::Spu;
 use outcome::BAD_HEAD;
 use outcome::CUT_PARAMETERS;
 use outcome::NO_AREA;
@@ -16,51 +19,8 @@ ghost use mathlib.Core.Option.{some};
 ghost use Rattle.grammar.specs.Bands.{Band, bandWords};
 ghost use Rattle.grammar.specs.Control.{forced-start, start, stop, selectors, alphas, area, offsets, colours, sizeOf};
 ghost use Rattle.grammar.specs.Record.{Told, untold, tell};
-ghost use Rattle.control.specs.Chain.{areaAt, plainAt, changeAt, orderAt, commandsAt, blocksAt};
-ghost use Rattle.control.specs.Answers.{spuOf, orderAnswer, commandsAnswer, chainAnswer, controlAnswer};
-
-// The record of a unit, by the names of the original.
-pub struct Spu {
-    // How many words the bands of all colour changes take. The wide numbers come first and the flags last, so that no byte of the record is
-    // unused: unused ones would be carried from command to command too.
-    pub band_words: usize,
-    // The number of codes read from both fields; 0 until they are read.
-    pub codes: usize,
-    // The first and last column and the first and last line of the picture on the display.
-    pub x1: u16,
-    pub y1: u16,
-    pub x2: u16,
-    pub y2: u16,
-    // The words of four palette selectors and of four alphas, colour 0 in the top nibble.
-    pub palette_sel: u16,
-    pub alpha: u16,
-    // The delay of the first start, of either kind, and of the last stop.
-    pub start_delay_raw: u16,
-    pub stop_delay_raw: u16,
-    // Where the two fields start in the unit.
-    pub top_rle_off: u16,
-    pub bot_rle_off: u16,
-    // Whether there is a start, a stop, a forced start, a colour change.
-    pub started: bool,
-    pub stopped: bool,
-    pub forced_display: bool,
-    pub saw_chg_colcon: bool,
-}
-
-// What a command tells.
-enum CommandAnswer {
-    // The place after it, and the record with what it tells.
-    Next { at: usize, spu: Spu },
-    // The number of the refusal.
-    Refused(u8),
-}
-
-// What control blocks tell.
-pub enum ControlAnswer {
-    Tells(Spu),
-    // The number of the refusal.
-    Refused(u8),
-}
+ghost use Rattle.control_model.specs.Chain.{areaAt, plainAt, changeAt, orderAt, commandsAt, blocksAt};
+ghost use Rattle.control_model.specs.Answers.{spuOf, orderAnswer, commandsAnswer, chainAnswer, controlAnswer};
 
 fn word_of(a: u8, b: u8) -> u16
     ensures { λ r. ⌜ r ≡ a * 256 + b ⌝ }

@@ -1,4 +1,7 @@
 // Writes a picture as a unit (docs/FORMAT.md, section 7).
+use demo_model::DemoAnswer;
+use demo_model::Ends;
+use demo_model::NibbleWriter;
 use outcome::BAD_INDEX;
 use outcome::BAD_SIDE;
 use outcome::LONG_UNIT;
@@ -11,24 +14,10 @@ ghost use lib.ListN.{length, drop, set};
 ghost use lib.Seq.{sets};
 ghost use Rattle.grammar.specs.Bytes.{byte};
 ghost use Rattle.grammar.specs.Picture.{evens};
-ghost use Rattle.demo.specs.Codes.{runSize, runMarks, lastMarks, digits, nibblesOf, evened, rowMarks, fieldNibbles, pictureRows, lead};
+ghost use Rattle.demo_model.specs.Codes.{runSize, runMarks, lastMarks, digits, nibblesOf, evened, rowMarks, fieldNibbles, pictureRows, lead};
 ghost use Rattle.outcome.specs.Outcome.{listed};
-ghost use Rattle.demo.specs.Unit.{isSide, allColours, Four, unitOf, sizedUnit};
-ghost use Rattle.demo.specs.Answers.{Inked, Sound, EndsOf, FieldsWritten, demoGiven, Written};
-
-// What became of a picture.
-pub enum DemoAnswer {
-    // The unit is written; its length.
-    Wrote(usize),
-    // The number of the refusal.
-    Refused(u8),
-}
-
-// Where the next nibble goes: how many are written, and the last of them where their number is odd.
-struct NibbleWriter {
-    pos: usize,
-    high: u8,
-}
+ghost use Rattle.demo_model.specs.Unit.{isSide, allColours, Four, unitOf, sizedUnit};
+ghost use Rattle.demo_model.specs.Answers.{Inked, Sound, EndsOf, FieldsWritten, demoGiven, Written};
 
 // A byte of the output; nothing past its end.
 fn store(out: &mut [u8], place: usize, b: u8)
@@ -208,12 +197,6 @@ fn put(out: &mut [u8], at: usize, bytes: &[u8])
         store(out, at + i, bytes[i]);
         i += 1;
     }
-}
-
-// How many nibbles the top field has, and both fields.
-struct Ends {
-    top: usize,
-    all: usize,
 }
 
 // Both fields, from byte 4 of the output on.

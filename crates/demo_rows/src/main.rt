@@ -1,9 +1,9 @@
 // Writes pictures as units into output whose bytes are all EE, reads each back, and writes a line for it: its name, the refusal or the
 // unit's length and bytes, and how many of its bytes past the unit are as found; then the size that is read back, the number of codes, and
 // whether every index is the one that was written. Longer pictures and all small ones have a line without bytes.
-use demo::DemoAnswer;
+use demo_model::DemoAnswer;
 use libc::STDOUT_FILENO;
-use spu::SpuAnswer;
+use spu_model::SpuAnswer;
 
 const FOUND: u8 = 0xEE;
 

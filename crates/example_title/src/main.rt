@@ -1,5 +1,5 @@
 // Writes the file of the example title: three pictures as units, one after the other. Its output is the file title.sub of crates/list.
-use demo::DemoAnswer;
+use demo_model::DemoAnswer;
 use libc::STDOUT_FILENO;
 
 fn write_front(out: &[u8], n: usize) {

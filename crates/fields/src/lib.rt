@@ -1,21 +1,21 @@
 // Both fields of a picture: rows 0, 2, .. of its index map from the one and rows 1, 3, .. from the other (docs/FORMAT.md, 3.8 and 5.7).
 use outcome::lesser;
-use rle::Counts;
-use rle::FieldAnswer;
 use rle::decode_sized;
 use rle::fill_measured;
 use rle::fill_run;
 use rle::measure_field;
 use rle::measure_kept;
 use rle::plus_counts;
+use rle_model::Counts;
+use rle_model::FieldAnswer;
 ghost use mathlib.Core.Path.{_≡_};
 ghost use Prim.Native.Nat.{_+_, _*_, _<_, _≤_, _^_};
 ghost use lib.ListN.{length};
 ghost use lib.Seq.{slice};
 ghost use Rattle.outcome.specs.Outcome.{ok};
-ghost use Rattle.rle.specs.Field.{paintField};
-ghost use Rattle.rle.specs.Answers.{fieldAnswer, plusField, measured, partRows, Ready, Counted};
-ghost use Rattle.fields.specs.Fields.{fieldsAt, FieldsDecoded, bothAnswer, blankRows, BothFit, BothDecoded};
+ghost use Rattle.rle_model.specs.Field.{paintField};
+ghost use Rattle.rle_model.specs.Answers.{fieldAnswer, plusField, measured, partRows, Ready, Counted};
+ghost use Rattle.rle_model.specs.Fields.{fieldsAt, FieldsDecoded, bothAnswer, blankRows, BothFit, BothDecoded};
 
 // Bytes of a unit: from one place up to another.
 pub struct Span {

@@ -11,7 +11,7 @@ use Rattle.grammar.specs.Parts.{Part}
 use Rattle.grammar.specs.IndexParts.{blank, parting}
 use Rattle.grammar.specs.IndexNumbers.{Valued, digit, numeral}
 use Rattle.grammar.specs.Index.{Said, size, palette, timestamp, startOf}
-use Rattle.grammar.specs.IndexCues.{Cue, cuesOf, coloursOf, paletteFrom, paletteOf, hasPalette, sizeFrom, displaySize, clip, durationOf, cueAt}
+use Rattle.grammar.specs.IndexCues.{Cue, cuesOf, coloursOf, paletteFrom, paletteOf, hasPalette, sizeFrom, displaySize, durationOf, cueAt}
 
 record Card : Type 0 where
   got : List ℕ

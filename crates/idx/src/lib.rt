@@ -1,6 +1,10 @@
 // The index text as a whole (docs/FORMAT.md, section 1): size, palette and cue table, or one cue of it.
-use idx_lines::Line;
 use idx_lines::read_line;
+use idx_lines_model::Line;
+use idx_model::CueAnswer;
+use idx_model::IdxAnswer;
+use idx_model::Measured;
+use idx_model::Seen;
 use idx_numbers::trim;
 use idx_numbers::until;
 use outcome::HIGH_BYTE;
@@ -16,59 +20,13 @@ ghost use Rattle.outcome.specs.Outcome.{ok, refuse, IsOk};
 ghost use Rattle.grammar.specs.IndexParts.{line-end};
 ghost use Rattle.grammar.specs.Index.{Said};
 ghost use Rattle.grammar.specs.IndexCues.{paletteOf, clip};
-ghost use Rattle.idx_numbers.specs.Parts.{all, split};
-ghost use Rattle.idx_lines.specs.Answers.{lineSays};
-ghost use Rattle.idx.specs.Text.{lowByte, linesIn, textIn, textOf};
-ghost use Rattle.idx.specs.Answers.{nothing-seen, seeSize, seePalette, seeCue, seeAll, seeLine, MeasuredAs, CueFits, CueStored, CuesStored, linesWith, idxAnswer, IdxRead, pickOf, cueAnswer};
+ghost use Rattle.idx_numbers_model.specs.Parts.{all, split};
+ghost use Rattle.idx_lines_model.specs.Answers.{lineSays};
+ghost use Rattle.idx_model.specs.Text.{lowByte, linesIn, textIn, textOf};
+ghost use Rattle.idx_model.specs.Answers.{nothing-seen, seeSize, seePalette, seeCue, seeAll, seeLine, MeasuredAs, CueFits, CueStored, CuesStored, linesWith, idxAnswer, IdxRead, pickOf, cueAnswer};
 
 // The byte that ends a line.
 const LINE_END: u8 = 10;
-
-// What was seen of a text, on the way to one of its cues.
-struct Seen {
-    // How many cues there are.
-    pub cues: usize,
-    pub width: u16,
-    pub height: u16,
-    pub has_palette: bool,
-    // Start and position of the cue that is looked for, and the start of the one after it; 0 until they are met.
-    pub start: i64,
-    pub position: u64,
-    pub next: i64,
-}
-
-enum Measured {
-    // The number of the refusal.
-    Refused(u8),
-    Saw(Seen),
-}
-
-// Size, palette and number of cues of a text. Beside a refusal all else is 0.
-pub struct IdxAnswer {
-    // The number of the refusal; 0 where there is none.
-    pub refused: u8,
-    pub width: u16,
-    pub height: u16,
-    pub has_palette: bool,
-    // Red, green and blue of 16 entries.
-    pub palette: [u8; 48],
-    pub cues: usize,
-}
-
-// One cue of a text. Beside a refusal all else is 0.
-pub struct CueAnswer {
-    // The number of the refusal; 0 where there is none.
-    pub refused: u8,
-    // Microseconds.
-    pub start: i64,
-    pub position: u64,
-    // Whether another cue follows, and the microseconds up to it; 0 where none does.
-    pub has_duration: bool,
-    pub duration: u64,
-    pub has_palette: bool,
-    // Red, green and blue of 16 entries.
-    pub palette: [u8; 48],
-}
 
 // Whether all bytes are below 80. With no way out of the loop many are tested at once.
 fn is_low(s: &[u8]) -> bool

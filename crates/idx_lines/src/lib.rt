@@ -1,8 +1,9 @@
 // The lines of the index text, one by one (docs/FORMAT.md, rules 1.2 to 1.8): what a trimmed line says, or its refusal.
-use idx_numbers::Kind;
-use idx_numbers::Num;
-use idx_numbers::Number;
-use idx_numbers::Run;
+use idx_lines_model::Counted;
+use idx_lines_model::Field;
+use idx_lines_model::Found;
+use idx_lines_model::Line;
+use idx_lines_model::Time;
 use idx_numbers::blanks;
 use idx_numbers::decimal_run;
 use idx_numbers::eight_at;
@@ -15,6 +16,10 @@ use idx_numbers::starts;
 use idx_numbers::time_of;
 use idx_numbers::trim;
 use idx_numbers::until;
+use idx_numbers_model::Kind;
+use idx_numbers_model::Num;
+use idx_numbers_model::Number;
+use idx_numbers_model::Run;
 use outcome::BAD_HEIGHT;
 use outcome::BAD_POSITION;
 use outcome::BAD_TIME;
@@ -31,53 +36,11 @@ ghost use lib.Seq.{sets};
 ghost use Rattle.grammar.specs.Parts;
 ghost use Rattle.grammar.specs.IndexParts.{colon, letter-x};
 ghost use Rattle.grammar.specs.Index.{timestamp-word, filepos-word};
-ghost use Rattle.idx_numbers.specs.Parts as NumberParts;
-ghost use Rattle.idx_numbers.specs.Parts.{part, split};
-ghost use Rattle.idx_lines.specs.Lines.{halves, sizeOr, timestampAt};
-ghost use Rattle.idx_lines.specs.Answers;
-ghost use Rattle.idx_lines.specs.Answers.{lineSays, lean, FoundIn, CountedAt, FrontBelow, FieldAt, timeSays, timeAt, positionWith, rgb, TokensRead, LineRead};
-
-// What a trimmed line says.
-pub enum Line {
-    // The number of the refusal.
-    Refused(u8),
-    Nothing,
-    // Width and height.
-    Sized(u16, u16),
-    // Colours of the palette, which stand in it; whether there is any.
-    Coloured(bool),
-    // Start and position.
-    Cue(i64, u64),
-}
-
-// The parts of a timestamp that count: where the time and the position start and end, trimmed.
-pub struct Found {
-    pub has_time: bool,
-    pub time_from: usize,
-    pub time_to: usize,
-    pub has_position: bool,
-    pub from: usize,
-    pub to: usize,
-}
-
-// A number without a sign, and the place after it.
-pub enum Counted {
-    Bad,
-    Is { value: u64, end: usize },
-}
-
-// A field of a time, and where the next one starts.
-pub enum Field {
-    Bad,
-    Is { value: i64, next: usize },
-}
-
-pub enum Time {
-    Bad,
-    // A step of the sum leaves signed 64 bits.
-    Over,
-    Is(i64),
-}
+ghost use Rattle.idx_numbers_model.specs.Parts as NumberParts;
+ghost use Rattle.idx_numbers_model.specs.Parts.{part, split};
+ghost use Rattle.idx_lines_model.specs.Lines.{halves, sizeOr, timestampAt};
+ghost use Rattle.idx_lines_model.specs.Answers;
+ghost use Rattle.idx_lines_model.specs.Answers.{lineSays, lean, FoundIn, CountedAt, FrontBelow, FieldAt, timeSays, timeAt, positionWith, rgb, TokensRead, LineRead};
 
 // What follows `size:`.
 fn parse_size(s: &[u8]) -> Line

@@ -1,5 +1,9 @@
 // Parts of the index text and the numbers in them (docs/FORMAT.md, rules 1.1 to 1.3, 1.7 and 1.8). Functions take a part of the text and
 // hand back a part of it, a length or a number.
+use idx_numbers_model::Kind;
+use idx_numbers_model::Num;
+use idx_numbers_model::Number;
+use idx_numbers_model::Run;
 ghost use mathlib.Core.Path.{_≡_};
 ghost use mathlib.Core.Bool.{not};
 ghost use mathlib.Core.List.{List};
@@ -8,36 +12,11 @@ ghost use lib.ListN.{length, take, drop};
 ghost use lib.IntN.{pos, _+ℤ_, _*ℤ_};
 ghost use Rattle.grammar.specs.IndexParts;
 ghost use Rattle.grammar.specs.IndexNumbers;
-ghost use Rattle.idx_numbers.specs.Parts;
-ghost use Rattle.idx_numbers.specs.Parts.{front, shorn, trimmed, all};
-ghost use Rattle.idx_numbers.specs.Numbers.{digits, unsigned, bare, hex, positionOf};
-ghost use Rattle.idx_numbers.specs.Times.{checked, microsOf};
-ghost use Rattle.idx_numbers.specs.Answers.{test, valueIn, fitting, Bound, runOf, lowest};
-
-// What a byte may be in a palette line: between tokens, or in one.
-pub enum Kind {
-    Parting,
-    Token,
-}
-
-// The digits at the front of a part.
-pub enum Run {
-    // Their number is above the bound.
-    Over,
-    // How many there are, none at all included, and their number.
-    Is { count: usize, value: u64 },
-}
-
-pub enum Number {
-    Bad,
-    Is(u64),
-}
-
-// A number of signed 64 bits, or one that is none.
-pub enum Num {
-    Over,
-    Is(i64),
-}
+ghost use Rattle.idx_numbers_model.specs.Parts;
+ghost use Rattle.idx_numbers_model.specs.Parts.{front, shorn, trimmed, all};
+ghost use Rattle.idx_numbers_model.specs.Numbers.{digits, unsigned, bare, hex, positionOf};
+ghost use Rattle.idx_numbers_model.specs.Times.{checked, microsOf};
+ghost use Rattle.idx_numbers_model.specs.Answers.{test, valueIn, fitting, Bound, runOf, lowest};
 
 fn is_blank(b: u8) -> bool
     ensures { λ r. ⌜ r ≡ IndexParts.blank b ⌝ }

@@ -1,8 +1,8 @@
 // Reads index texts into cue buffers whose starts are all -77 and whose positions are all 77, and writes a line for each: its name, the
 // refusal or size, palette and number of cues, and both buffers after it, with `.` for what is as found. Or picks one cue of a text.
 // A line of standard input is a row: its name, the starts and positions that are lent or the one cue, and the text.
-use idx::CueAnswer;
-use idx::IdxAnswer;
+use idx_model::CueAnswer;
+use idx_model::IdxAnswer;
 use libc::STDIN_FILENO;
 use libc::STDOUT_FILENO;
 

@@ -1,20 +1,20 @@
 // The lines of the list program, each put into a lent line (docs/FORMAT.md, section 8).
-use control::Spu;
+use control_model::Spu;
+use listing_model::Head;
 use outcome::NO_CUE;
 use outcome::lesser;
-use ps::UnitAnswer;
-use spu::SpuAnswer;
+use ps_model::UnitAnswer;
+use spu_model::SpuAnswer;
 ghost use mathlib.Core.Path.{_≡_};
-ghost use mathlib.Core.List.{[], _∷_};
 ghost use Prim.Native.Nat.{_+_, _≤_, _<_};
 ghost use lib.ListN.{length};
 ghost use lib.Seq.{sets};
 ghost use Rattle.grammar.specs.Packets.{subpicture};
-ghost use Rattle.ps.specs.Packets.{formAt};
-ghost use Rattle.ps.specs.Answers.{unitPart, unitStored};
-ghost use Rattle.listing.specs.Lines.{decimal, signed, lasting, field, newline, times, area, delays, shownLine, refusedLine, cuesLine, indexLine, fileLine};
-ghost use Rattle.listing.specs.Title.{formFor, cueLine};
-ghost use Rattle.listing.specs.Answers.{Put, Written, durationIs, recordShown, unitLine, positionLine, tableOf, Exactly, Headed};
+ghost use Rattle.ps_model.specs.Packets.{formAt};
+ghost use Rattle.ps_model.specs.Answers.{unitPart, unitStored};
+ghost use Rattle.listing_model.specs.Lines.{decimal, signed, lasting, field, newline, times, area, delays, shownLine, refusedLine, cuesLine, indexLine, fileLine};
+ghost use Rattle.listing_model.specs.Title.{formFor, cueLine};
+ghost use Rattle.listing_model.specs.Answers.{Put, Written, durationIs, recordShown, unitLine, positionLine, tableOf, Exactly, Headed};
 
 // The longest file that is read.
 const MOST: usize = 65536;
@@ -288,14 +288,6 @@ pub fn cue_line(
         return put_cue(file, positions[n], n, start, true, duration, scratch, line);
     }
     put_cue(file, positions[n], n, start, false, 0, scratch, line)
-}
-
-// A title's first line.
-pub struct Head {
-    // How long the line is.
-    pub size: usize,
-    // How many cues follow, a line for each.
-    pub cues: usize,
 }
 
 // `file refused`, and no cue.

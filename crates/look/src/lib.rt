@@ -1,19 +1,12 @@
 // What stored colour bands give at a place of the display (docs/FORMAT.md, 4.6).
+use bands_model::LookAnswer;
 use outcome::lesser;
 ghost use mathlib.Core.Path.{_≡_};
 ghost use Prim.Native.Nat.{_≤_, _-_, _+_, _*_};
 ghost use lib.ListN.{length, getD, drop};
 ghost use lib.Dec.{leb};
 ghost use mathlib.Core.Bool.{_&&_};
-ghost use Rattle.look.specs.Look.{told, pickEntry, entriesLook, bandLook, lookWords, spansLine};
-
-// What stored bands give at a place of the display.
-pub enum LookAnswer {
-    // The words of four selectors and four alphas, colour 0 in the top nibble.
-    Found { selectors: u16, alphas: u16 },
-    // No band has an entry there.
-    Nothing,
-}
+ghost use Rattle.bands_model.specs.Look.{told, pickEntry, entriesLook, bandLook, lookWords, spansLine};
 
 // An entry that starts at the column or left of it, or what was found before it.
 fn pick_entry(x: u16, column: u16, selectors: u16, alphas: u16, before: LookAnswer) -> LookAnswer

@@ -1,16 +1,9 @@
 // A reader of a field's nibbles: the field and a half-byte count, as the original has it (docs/FORMAT.md, section 5).
 // Each function over the reader is thin over one that takes the field and the count, which is covered; it is proved by a walk of its MIR.
 use outcome::FIELD_RAN_OUT;
+use rle_model::Nibble;
 ghost use mathlib.Core.Path.{_≡_};
-ghost use Rattle.nibbles.specs.Nibbles.{nibbleAt, nibbleAnswer, pastNibble, onByte};
-
-// What reading a nibble finds.
-pub enum Nibble {
-    // The nibble, 0 to 15.
-    Is(usize),
-    // The number of the refusal.
-    Refused(u8),
-}
+ghost use Rattle.rle_model.specs.Nibbles.{nibbleAt, nibbleAnswer, pastNibble, onByte};
 
 pub struct NibbleReader<'a> {
     pub buf: &'a [u8],

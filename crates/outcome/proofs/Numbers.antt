@@ -1,17 +1,23 @@
--- A refusal has a number of the table where each part of its definition has one. Assumes nothing.
-use Prim.Native.Nat.{ℕ, zero, suc, _≤_, _<_}
+-- The table of refusals by its numbers; and a refusal has one of them where each part of its definition has. Assumes nothing.
+use Prim.Native.Nat.{ℕ, zero, suc, _<_}
 use native.Mathlib.Omega.{arith}
-use mathlib.Core.Path.{_≡_, refl, sym, subst}
+use mathlib.Core.Path.{_≡_, refl, sym, subst, _∙_}
 use mathlib.Core.Bool.{Bool, true, false, cond}
 use mathlib.Core.Option.{Option, some, none}
-use mathlib.Core.List.{List, []}
-use lib.Dec.{leb}
-use borrow.Author.Tests.{leb-true}
-use Rattle.outcome.specs.Outcome.{Res, ok, refuse, check, need, andThen, consRes, mapRes, InTable, Numbered, refusalOf, Returned}
+use mathlib.Core.List.{List, [], _∷_}
+use Rattle.outcome.specs.Outcome.{Res, ok, refuse, refusals, isOneOf, InTable, check, need, andThen, consRes, mapRes, Numbered, refusalOf, Returned}
+use Rattle.outcome.proofs.Laws.{clash}
 use Rattle.outcome.specs.Lists.{listFuel, listFrom}
 
-pub in-table : (n : ℕ) → leb 1 n ≡ true → leb n 31 ≡ true → InTable n
-in-table n h k = (leb-true 1 n h, leb-true n 31 k)
+-- 1 to 31, each once
+pub table : refusals ≡ 1 ∷ 2 ∷ 3 ∷ 4 ∷ 5 ∷ 6 ∷ 7 ∷ 8 ∷ 9 ∷ 10 ∷ 11 ∷ 12 ∷ 13 ∷ 14 ∷ 15 ∷ 16 ∷ 17 ∷ 18 ∷ 19 ∷ 20 ∷ 21 ∷ 22 ∷ 23 ∷ 24 ∷ 25 ∷ 26 ∷ 27 ∷ 28 ∷ 29 ∷ 30 ∷ 31 ∷ []
+table = refl
+
+pub in-table : (n : ℕ) → isOneOf n refusals ≡ true → InTable n
+in-table n h = record { listed-there = h }
+
+pub not-0 : (n : ℕ) → InTable n → n ≡ 0 → ⊥
+not-0 n h e = clash (isOneOf 0 refusals) (subst InTable e h .listed-there) refl
 
 pub check-numbered : {A : Type 0} (t : Bool) (n : ℕ) (r : Res A) → InTable n → Numbered r → Numbered (check t n r)
 check-numbered true n r h k = k
@@ -64,7 +70,7 @@ module _ {S A : Type 0} (stop : S → Bool) (item : S → Res A) (next : S → A
   unfolding listFrom
   list-numbered s = fuel-numbered (suc (left s)) s (omega arith)
 
--- so 0 is returned where nothing is refused, and no number outside the table
+-- so 0 is returned where nothing is refused, and otherwise a number of the table
 pub returned : {A : Type 0} (x : Res A) (r : ℕ) → Numbered x → r ≡ refusalOf x → Returned x r
-returned (ok a) r h e = record { in-table = omega (arith, e); accepted = λ z. tt }
-returned (refuse n) r h e = record { in-table = omega (arith, e, h .1); accepted = λ z. absurd (omega (arith, e, z, h .0)) }
+returned (ok a) r h e = record { accepted = λ z. tt; in-table = λ z. absurd (z e) }
+returned (refuse n) r h e = record { accepted = λ z. absurd (not-0 n h (sym e ∙ z)); in-table = λ z. subst InTable (sym e) h }

@@ -1,16 +1,17 @@
 -- What a definition of the reader answers: a value, or the number of a refusal in the table of docs/FORMAT.md.
 -- Assumes nothing: these are definitions.
-use Prim.Native.Nat.{ℕ, _≤_}
+use Prim.Native.Nat.{ℕ}
 use mathlib.Core.Path.{_≡_}
-use mathlib.Core.Bool.{Bool, cond}
+use mathlib.Core.Bool.{Bool, true, false, cond, _||_}
 use mathlib.Core.Option.{Option, some, none}
 use mathlib.Core.List.{List, [], _∷_}
+use lib.Dec.{eqb}
 
 pub data Res (A : Type 0) : Type 0 where
   ok : A → Res A
   refuse : ℕ → Res A
 
--- the refusals that the layers give, by name
+-- the refusals by name
 abbrev pub high-byte : ℕ
 high-byte = 1
 
@@ -104,6 +105,23 @@ long-unit = 30
 abbrev pub short-output : ℕ
 short-output = 31
 
+-- the table of refusals (FORMAT 9): every number that is returned for one, and no other
+abbrev pub refusals : List ℕ
+refusals =
+    high-byte ∷ bad-width ∷ bad-height ∷ bad-token ∷ no-time ∷ no-position ∷ bad-time ∷ long-time ∷
+    bad-position ∷ short-cues ∷ no-cue ∷ past-file ∷ no-unit ∷ short-scratch ∷ no-head ∷ bad-head ∷
+    cut-parameters ∷ small-size ∷ no-band-list ∷ unknown-command ∷ no-area ∷ short-pixels ∷ short-words ∷
+    short-canvas ∷ no-top-field ∷ field-ran-out ∷ bad-side ∷ not-all-indices ∷ bad-index ∷ long-unit ∷
+    short-output ∷ []
+
+abbrev pub isOneOf : ℕ → List ℕ → Bool
+isOneOf n [] = false
+isOneOf n (m ∷ ms) = eqb n m || isOneOf n ms
+
+-- n is a number of the table
+pub record InTable (n : ℕ) : Type 0 where
+  pub listed-there : isOneOf n refusals ≡ true
+
 -- r where the test holds, else the refusal n: what is asked first refuses first
 abbrev pub check : {A : Type 0} → Bool → ℕ → Res A → Res A
 check t n r = cond t r (refuse n)
@@ -147,15 +165,12 @@ abbrev pub refusalOf : {A : Type 0} → Res A → ℕ
 refusalOf (ok a) = 0
 refusalOf (refuse n) = n
 
--- a number of the table of refusals (FORMAT 9); a refusal with one
-abbrev pub InTable : ℕ → Type 0
-InTable n = (1 ≤ n) × (n ≤ 31)
-
+-- a refusal has a number of the table
 abbrev pub Numbered : {A : Type 0} → Res A → Type 0
 Numbered (ok a) = Unit {0}
 Numbered (refuse n) = InTable n
 
--- the number r that is returned for x is none outside the table, and is 0 only where x is not refused
+-- the number r that is returned for x is 0 only where x is not refused, and otherwise a number of the table
 pub record Returned {A : Type 0} (x : Res A) (r : ℕ) : Type 0 where
-  pub in-table : r ≤ 31
   pub accepted : r ≡ 0 → IsOk x
+  pub in-table : (r ≡ 0 → ⊥) → InTable r

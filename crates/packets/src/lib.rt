@@ -1,6 +1,8 @@
 // The packet at a place of a program stream, and the body of a PES packet (docs/FORMAT.md, 2.2 to 2.7).
 use outcome::NO_UNIT;
 use outcome::word_of;
+use ps_model::BodyAnswer;
+use ps_model::PacketAnswer;
 ghost use mathlib.Core.Path.{_≡_};
 ghost use mathlib.Core.Option.{none};
 ghost use Prim.Native.Nat.{_≤_, _<_, _+_, _-_};
@@ -8,15 +10,8 @@ ghost use lib.ListN.{length};
 ghost use Rattle.outcome.specs.Outcome.{ok};
 ghost use Rattle.grammar.specs.Bytes.{word};
 ghost use Rattle.grammar.specs.Packets.{bufferSize, stampSize, subpicture};
-ghost use Rattle.packets.specs.Packets.{leading, header1At, bodyAt, packet, packAt, privateAt, packetAt};
-ghost use Rattle.packets.specs.Answers.{bodyGiven, bodyAnswer, bodyFound, bodyRest, packetGiven, wholeGiven};
-
-// Where the body of a PES starts.
-enum BodyAnswer {
-    At(usize),
-    // The number of the refusal.
-    Refused(u8),
-}
+ghost use Rattle.ps_model.specs.OnePacket.{leading, header1At, bodyAt, packet, packAt, privateAt, packetAt};
+ghost use Rattle.ps_model.specs.PacketAnswers.{bodyGiven, bodyAnswer, bodyFound, bodyRest, packetGiven, wholeGiven};
 
 // How many of the first 16 bytes are stuffing, up to the first that is not.
 fn stuffing(pes: &[u8]) -> usize
@@ -116,16 +111,6 @@ pub fn parse_pes_body<'a>(pes: &'a [u8], found: &mut bool) -> &'a [u8]
             &pes[0..0]
         }
     }
-}
-
-// What the packet at a place is.
-pub enum PacketAnswer {
-    // It keeps the bytes from the first place up to the second, where it ends.
-    Keeps(usize, usize),
-    // It keeps nothing; the place after it.
-    Passes(usize),
-    // The number of the refusal.
-    Refused(u8),
 }
 
 // Whether an id is a subpicture stream's.

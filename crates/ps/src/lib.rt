@@ -3,8 +3,10 @@ use outcome::PAST_FILE;
 use outcome::SHORT_SCRATCH;
 use outcome::lesser;
 use outcome::word_of;
-use packets::PacketAnswer;
 use packets::read_packet;
+use ps_model::JoinedAnswer;
+use ps_model::PacketAnswer;
+use ps_model::UnitAnswer;
 ghost use mathlib.Core.Path.{_≡_};
 ghost use mathlib.Core.Bool.{cond};
 ghost use mathlib.Core.List.{List, []};
@@ -15,26 +17,9 @@ ghost use lib.Seq.{sets, slice};
 ghost use Rattle.outcome.specs.Outcome.{ok};
 ghost use Rattle.grammar.specs.Bytes.{byte, word};
 ghost use Rattle.grammar.specs.Packets.{Packet, packets, unitOf, subpicture};
-ghost use Rattle.ps.specs.Packets.{packetsAt, isBare};
-ghost use Rattle.ps.specs.Unit.{joinedAt};
-ghost use Rattle.ps.specs.Answers.{joinedGiven, unitGiven, unitStored, unitPart, Extracted};
-
-// How many bytes the packets from a place on give a unit.
-enum JoinedAnswer {
-    Holds(usize),
-    // The number of the refusal.
-    Refused(u8),
-}
-
-// Where the unit at a position stands.
-pub enum UnitAnswer {
-    // In the file, from the position on; its length.
-    Bare(usize),
-    // In scratch, at its front; its length.
-    Joined(usize),
-    // The number of the refusal.
-    Refused(u8),
-}
+ghost use Rattle.ps_model.specs.Packets.{packetsAt, isBare};
+ghost use Rattle.ps_model.specs.Unit.{joinedAt};
+ghost use Rattle.ps_model.specs.Answers.{joinedGiven, unitGiven, unitStored, unitPart, Extracted};
 
 // Byte j of what is joined once the bytes of the file from a up to e are: `old` where it was there before.
 fn joined_byte(file: &[u8], a: usize, e: usize, have: usize, j: usize, old: u8) -> u8

@@ -3,7 +3,7 @@
 // A line of standard input is a row: its name, the position and the room of scratch, and the bytes of the file.
 use libc::STDIN_FILENO;
 use libc::STDOUT_FILENO;
-use ps::UnitAnswer;
+use ps_model::UnitAnswer;
 
 const FOUND: u8 = 0xEE;
 

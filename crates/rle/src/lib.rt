@@ -1,44 +1,27 @@
 // The rows of a picture's fields, read code by code into rows of the index map (docs/FORMAT.md, section 5).
-use codes::CodeAnswer;
-use codes::Cursor;
 use codes::painted;
 use codes::read_code;
 use nibbles::align_through;
 use outcome::SHORT_PIXELS;
+use rle_model::CodeAnswer;
+use rle_model::Counts;
+use rle_model::Cursor;
+use rle_model::FieldAnswer;
+use rle_model::RowAnswer;
 ghost use mathlib.Core.Path.{_≡_};
 ghost use Prim.Native.Nat.{_+_, _*_, _-_, _%_, _<_, _≤_, _^_};
 ghost use lib.ListN.{length, replicate, set, take};
 ghost use lib.Seq.{sets};
 ghost use lib.Dec.{leb};
 ghost use Rattle.outcome.specs.Outcome.{IsOk, listed};
-ghost use Rattle.codes.specs.Codes.{rowAt, fieldAt};
-ghost use Rattle.rle.specs.Field.{paintField};
-ghost use Rattle.rle.specs.Kept.{keptRun, leftAfter, placeAfter, paintKept, KeptFits};
-ghost use Rattle.rle.specs.Answers.{plus, AtMost, measured, partRows, Ready};
-ghost use Rattle.rle.specs.Answers.{RowMeasured, FieldMeasured, RowFilled, RowsDecoded, Decoded};
+ghost use Rattle.rle_model.specs.Codes.{rowAt, fieldAt};
+ghost use Rattle.rle_model.specs.Field.{paintField};
+ghost use Rattle.rle_model.specs.Kept.{keptRun, leftAfter, placeAfter, paintKept, KeptFits};
+ghost use Rattle.rle_model.specs.Answers.{plus, AtMost, measured, partRows, Ready};
+ghost use Rattle.rle_model.specs.Answers.{RowMeasured, FieldMeasured, RowFilled, RowsDecoded, Decoded};
 
 // A row below this width has no run that a kept number could not hold.
 const WIDEST: usize = 16384;
-
-// What rows count.
-pub struct Counts {
-    // Codes read, fills and clipped ones included.
-    pub codes: usize,
-}
-
-// What measuring a row finds.
-enum RowAnswer {
-    // What its codes count, and the place after the last.
-    Row { counts: Counts, next: Cursor },
-    Refused(u8),
-}
-
-// What a field gives.
-pub enum FieldAnswer {
-    // What its rows count.
-    Rows(Counts),
-    Refused(u8),
-}
 
 // Ruled out: one of the two counts; a sum that wraps.
 pub fn plus_counts(a: Counts, b: Counts) -> Counts

@@ -2,12 +2,12 @@
 // and the map after it in runs of equal bytes, `NxC`, with `.` for a byte that is as found.
 // A line of standard input is a row: what it asks for, its name, its numbers and the field. `field` has width, height, start row and the bytes
 // of the map; `code`, `nibble` and `align` have a place.
-use codes::CodeAnswer;
-use codes::Cursor;
 use libc::STDIN_FILENO;
 use libc::STDOUT_FILENO;
-use nibbles::Nibble;
-use rle::FieldAnswer;
+use rle_model::CodeAnswer;
+use rle_model::Cursor;
+use rle_model::FieldAnswer;
+use rle_model::Nibble;
 
 const FOUND: u8 = 238;
 

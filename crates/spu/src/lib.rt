@@ -1,12 +1,14 @@
 // A whole unit: its control blocks, the rows of its two fields in the index map, and its bands as words (docs/FORMAT.md, sections 3 to 5).
-use control::ControlAnswer;
-use control::Spu;
+use control_model::ControlAnswer;
+use control_model::Spu;
 use fields::Span;
 use outcome::NO_TOP_FIELD;
 use outcome::SHORT_PIXELS;
 use outcome::SHORT_WORDS;
 use outcome::word_of;
-use rle::FieldAnswer;
+use rle_model::FieldAnswer;
+use spu_model::Layout;
+use spu_model::SpuAnswer;
 ghost use mathlib.Core.Path.{_≡_};
 ghost use Prim.Native.Nat.{_≤_, _<_, _-_, _+_, _*_};
 ghost use mathlib.Core.List.{List};
@@ -14,23 +16,15 @@ ghost use lib.ListN.{length};
 ghost use Rattle.grammar.specs.Control.{Block};
 ghost use Rattle.grammar.specs.Record.{Told, told, width, height};
 ghost use Rattle.grammar.specs.Picture.{topEnd};
-ghost use Rattle.spu.specs.Unit.{offsetsOf};
+ghost use Rattle.spu_model.specs.Unit.{offsetsOf};
 ghost use Rattle.outcome.specs.Outcome.{ok, IsOk};
 ghost use lib.Seq.{sets};
-ghost use Rattle.bands.specs.Fill.{unitWords};
-ghost use Rattle.control.specs.Chain.{controlAt};
-ghost use Rattle.control.specs.Answers.{spuOf};
-ghost use Rattle.rle.specs.Answers.{fieldAnswer};
-ghost use Rattle.spu.specs.Unit.{hasBottom, rowsAt, unitAt};
-ghost use Rattle.spu.specs.Answers.{layoutOf, spuAnswer, RowsDecoded, Decoded};
-
-// What a unit gives.
-pub enum SpuAnswer {
-    // Its record.
-    Shows(Spu),
-    // The number of the refusal.
-    Refused(u8),
-}
+ghost use Rattle.control_model.specs.Fill.{unitWords};
+ghost use Rattle.control_model.specs.Chain.{controlAt};
+ghost use Rattle.control_model.specs.Answers.{spuOf};
+ghost use Rattle.rle_model.specs.Answers.{fieldAnswer};
+ghost use Rattle.spu_model.specs.Unit.{hasBottom, rowsAt, unitAt};
+ghost use Rattle.spu_model.specs.Answers.{layoutOf, spuAnswer, RowsDecoded, Decoded};
 
 // The byte before which the top field ends.
 fn ending(control: usize, top: usize, bottom: usize) -> usize
@@ -53,20 +47,6 @@ fn has_bottom(control: usize, bottom: usize) -> bool
         return bottom < control;
     }
     false
-}
-
-// The size of a picture, and where its fields stand in the unit.
-struct Layout {
-    width: usize,
-    height: usize,
-    // The unit's end, and the place of its first control block.
-    end: usize,
-    control: usize,
-    top: usize,
-    top_end: usize,
-    bottom: usize,
-    // Whether there is a bottom field.
-    shown: bool,
 }
 
 // The layout of a unit whose control blocks tell `spu`.

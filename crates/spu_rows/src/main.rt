@@ -3,10 +3,10 @@
 // In the record a start and a stop have a flag and a delay.
 // A line of standard input is a row: its name, the bytes of the map and the words that are lent, and the unit; it is measured where no
 // numbers are given.
-use control::Spu;
+use control_model::Spu;
 use libc::STDIN_FILENO;
 use libc::STDOUT_FILENO;
-use spu::SpuAnswer;
+use spu_model::SpuAnswer;
 
 const FOUND: u8 = 238;
 

@@ -12,12 +12,12 @@ use lib.Dec.{eqb}
 use borrow.Author.Tests.{eq-eqb, ne-eqb}
 use Rattle.outcome.proofs.Laws.{le-or-lt}
 use Rattle.grammar.specs.IndexParts.{unlike}
-use Rattle.idx_numbers.specs.Parts.{front, rest}
-use Rattle.idx_numbers.specs.Numbers.{unsigned}
-use Rattle.idx_numbers.specs.Answers.{valueIn}
-use Rattle.idx_numbers.specs.declared.Number.{Number}
-use Rattle.idx_numbers.specs.declared.Number.the-variants.{Is, Bad}
-use Rattle.idx_numbers.proofs.Turns.{drop-front, front-le, take-front}
+use Rattle.idx_numbers_model.specs.Parts.{front, rest}
+use Rattle.idx_numbers_model.specs.Numbers.{unsigned}
+use Rattle.idx_numbers_model.specs.Answers.{valueIn}
+use Rattle.idx_numbers_model.specs.declared.Number.{Number}
+use Rattle.idx_numbers_model.specs.declared.Number.the-variants.{Is, Bad}
+use Rattle.idx_numbers_model.proofs.Loops.{drop-front, front-le, take-front}
 use Rattle.table.specs.Table.{partAt, orZero, numberOf, hexDigit, bytesOf, Written, Stored}
 use Rattle.table.specs.declared.Item.{Item}
 

@@ -8,8 +8,8 @@ use lib.ListN.{length, drop}
 use lib.Seq.{sets}
 use lib.Dec.{eqb}
 use Rattle.grammar.specs.IndexParts.{unlike}
-use Rattle.idx_numbers.specs.Parts.{front, rest}
-use Rattle.idx_numbers.specs.Numbers.{unsigned}
+use Rattle.idx_numbers_model.specs.Parts.{front, rest}
+use Rattle.idx_numbers_model.specs.Numbers.{unsigned}
 use Rattle.table.specs.declared.Item.{Item}
 
 -- part k of s, with the mark m between parts, and nothing behind the last

@@ -1,8 +1,8 @@
 // Tables of rows as text, for the programs that run rows: the parts of a text between marks, and the number or the bytes that a part
 // writes. A byte is written as itself, or as a backslash and two hexadecimal digits.
-use idx_numbers::Number;
 use idx_numbers::parse_decimal;
 use idx_numbers::until;
+use idx_numbers_model::Number;
 use outcome::lesser;
 ghost use mathlib.Core.Path.{_≡_};
 ghost use Prim.Native.Nat.{_+_, _*_, _<_};

@@ -1,38 +1,33 @@
 // The one call, from index text, file and cue number to a cue's canvas, with painting inside it (docs/FORMAT.md, section 6).
-use control::ControlAnswer;
-use control::Spu;
-use idx::CueAnswer;
-use look::LookAnswer;
+use bands_model::LookAnswer;
+use control_model::ControlAnswer;
+use control_model::Spu;
+use idx_model::CueAnswer;
 use outcome::SHORT_CANVAS;
 use outcome::SHORT_PIXELS;
 use outcome::SHORT_WORDS;
-use ps::UnitAnswer;
-use spu::SpuAnswer;
+use ps_model::UnitAnswer;
+use spu_model::SpuAnswer;
+use vobsub_model::CanvasAnswer;
+use vobsub_model::Four;
+use vobsub_model::Shown;
 ghost use mathlib.Core.Path.{_≡_};
-ghost use mathlib.Core.Bool.{Bool, false};
 ghost use mathlib.Core.List.{List, [], _∷_};
-ghost use Prim.Native.Nat.{ℕ, _+_, _*_, _≤_, _<_, min};
+ghost use Prim.Native.Nat.{_+_, _*_, _≤_, _<_, min};
 ghost use lib.ListN.{length};
 ghost use lib.Seq.{sets};
 ghost use Rattle.outcome.specs.Outcome.{ok};
-ghost use Rattle.look.specs.Look.{spansLine};
-ghost use Rattle.control.specs.Answers.{spuOf};
-ghost use Rattle.control.specs.Chain.{controlAt};
+ghost use Rattle.control_model.specs.Answers.{spuOf};
+ghost use Rattle.control_model.specs.Chain.{controlAt};
 ghost use Rattle.grammar.specs.Control.{Block};
 ghost use Rattle.grammar.specs.Record.{told};
 ghost use Rattle.grammar.specs.Canvas.{nibbleOf, pixel, lineBytes};
-ghost use Rattle.ps.specs.Answers.{unitPart};
+ghost use Rattle.ps_model.specs.Answers.{unitPart};
 ghost use Rattle.grammar.specs.Reading.{wanted};
-ghost use Rattle.vobsub.specs.Call.{lent};
-ghost use Rattle.vobsub.specs.Answers.{UnitPainted, shownOf, FoundPainted, CuePainted};
-ghost use Rattle.vobsub.specs.Claim.{Exactly};
-ghost use Rattle.vobsub.specs.Paint.{lookIs, wordLook, sameLook, fourColours, tableLine, mapCanvas};
-
-// Four selectors and four alphas, colour 0 in the top nibble of each.
-struct Four {
-    selectors: u16,
-    alphas: u16,
-}
+ghost use Rattle.vobsub_model.specs.Call.{lent};
+ghost use Rattle.vobsub_model.specs.Answers.{UnitPainted, shownOf, FoundPainted, CuePainted};
+ghost use Rattle.vobsub_model.specs.Claim.{Exactly};
+ghost use Rattle.vobsub_model.specs.Paint.{lookIs, wordLook, sameLook, fourColours, tableLine, mapCanvas};
 
 // The nibble of `four` for colour c.
 fn nibble_of(four: u16, c: u8) -> u8
@@ -297,33 +292,6 @@ fn paint_unit(
         ControlAnswer::Tells(spu) => paint_told(unit, spu, palette, pixels, words, canvas),
         ControlAnswer::Refused(number) => SpuAnswer::Refused(number),
     }
-}
-
-// What is shown of a cue.
-pub struct Shown {
-    // Microseconds.
-    pub start: i64,
-    // Whether another cue follows, and the microseconds up to it; 0 where none does.
-    pub has_duration: bool,
-    pub duration: u64,
-    // The delays of the unit's first start and last stop, in its own ticks.
-    pub start_delay: u16,
-    pub stop_delay: u16,
-    // The place of the first pixel on the display.
-    pub x1: u16,
-    pub y1: u16,
-    pub width: usize,
-    pub height: usize,
-    // How many run codes were read.
-    pub codes: usize,
-}
-
-// What a cue gives.
-pub enum CanvasAnswer {
-    // It is painted.
-    Paints(Shown),
-    // The number of the refusal.
-    Refused(u8),
 }
 
 // A cue's times with the record of its unit.

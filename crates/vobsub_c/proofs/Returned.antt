@@ -11,28 +11,28 @@ use Rattle.grammar.specs.Picture.{ListedUnit}
 use Rattle.grammar.specs.Packets.{Form, bare, packets, subpicture}
 use Rattle.grammar.specs.Reading.{Reading, wanted}
 use Rattle.grammar.specs.Rows.{Code}
-use Rattle.chg_colcon.specs.Answers.{countOf, stored}
-use Rattle.chg_colcon.proofs.Claim.{stored-numbered}
-use Rattle.packets.specs.Packets.{bodyAt}
-use Rattle.packets.proofs.Shift.{body-refuses}
-use Rattle.ps.specs.Unit.{unitAt}
-use Rattle.ps.specs.Answers.{unitGiven}
-use Rattle.ps.proofs.Claim as ps
-use Rattle.rle.specs.Field.{decoded}
-use Rattle.rle.specs.Answers.{fieldAnswer}
-use Rattle.rle.proofs.Claim.{decoded-numbered}
-use Rattle.spu.specs.Unit.{unitIn}
-use Rattle.spu.specs.Answers.{spuAnswer}
-use Rattle.spu.proofs.Numbers.{unit-numbered}
-use Rattle.demo.specs.Unit.{demoAt}
-use Rattle.demo.specs.Answers.{demoGiven}
-use Rattle.demo.proofs.Numbers.{demo-numbered}
-use Rattle.idx.specs.Text.{textOf}
-use Rattle.idx.specs.Answers.{linesWith, idxAnswer, Picked, pickOf, cueAnswer}
-use Rattle.idx.proofs.Claim.{text-numbered, pick-numbered}
-use Rattle.vobsub.specs.Call.{Lent, readingIn}
-use Rattle.vobsub.specs.Answers.{canvasAnswer}
-use Rattle.vobsub.proofs.Numbers.{reading-numbered}
+use Rattle.bands_model.specs.Answers.{countOf, stored}
+use Rattle.bands_model.proofs.Refusals.{stored-numbered}
+use Rattle.ps_model.specs.OnePacket.{bodyAt}
+use Rattle.ps_model.proofs.Shift.{body-refuses}
+use Rattle.ps_model.specs.Unit.{unitAt}
+use Rattle.ps_model.specs.Answers.{unitGiven}
+use Rattle.ps_model.proofs.Refusals as ps
+use Rattle.rle_model.specs.Field.{decoded}
+use Rattle.rle_model.specs.Answers.{fieldAnswer}
+use Rattle.rle_model.proofs.Refusals.{decoded-numbered}
+use Rattle.spu_model.specs.Unit.{unitIn}
+use Rattle.spu_model.specs.Answers.{spuAnswer}
+use Rattle.spu_model.proofs.Refusals.{unit-numbered}
+use Rattle.demo_model.specs.Unit.{demoAt}
+use Rattle.demo_model.specs.Answers.{demoGiven}
+use Rattle.demo_model.proofs.Refusals.{demo-numbered}
+use Rattle.idx_model.specs.Text.{textOf}
+use Rattle.idx_model.specs.Answers.{linesWith, idxAnswer, Picked, pickOf, cueAnswer}
+use Rattle.idx_model.proofs.Refusals.{text-numbered, pick-numbered}
+use Rattle.vobsub_model.specs.Call.{Lent, readingIn}
+use Rattle.vobsub_model.specs.Answers.{canvasAnswer}
+use Rattle.vobsub_model.proofs.Refusals.{reading-numbered}
 use Rattle.vobsub_c.specs.Answers.{bandRefusal, unitRefusal, fieldRefusal, spuRefusal, demoRefusal, canvasRefusal}
 
 pub bands-returned : (s : List ℕ) (at : ℕ) (ws : List ℕ) (r : ℕ) → r ≡ bandRefusal (countOf 0 (stored s at ws)) → Returned (stored s at ws) r
@@ -43,7 +43,7 @@ bands-returned s at ws r e = returned (stored s at ws) r (stored-numbered s at w
     go (refuse n) = refl
 
 pub body-returned : (s : List ℕ) (r : ℕ) → r ≡ refusalOf (bodyAt s 0 (length s)) → Returned (bodyAt s 0 (length s)) r
-body-returned s r e = returned (bodyAt s 0 (length s)) r (only-numbered no-unit (in-table no-unit refl refl) (bodyAt s 0 (length s)) (body-refuses s 0 (length s))) e
+body-returned s r e = returned (bodyAt s 0 (length s)) r (only-numbered no-unit (in-table no-unit refl) (bodyAt s 0 (length s)) (body-refuses s 0 (length s))) e
 
 pub unit-returned : (f : List ℕ) (p n r : ℕ) → r ≡ unitRefusal (unitGiven (unitAt subpicture f p n)) → Returned (unitAt subpicture f p n) r
 unit-returned f p n r e = returned (unitAt subpicture f p n) r (ps.unit-numbered f p n) (e ∙ go (unitAt subpicture f p n))

@@ -2,46 +2,45 @@
 -- the last content of all that was lent. Assumes nothing: these are definitions.
 use Prim.Native.Nat.{ℕ, _*_}
 use mathlib.Core.Path.{_≡_}
-use mathlib.Core.List.{List, [], _∷_}
+use mathlib.Core.List.{List}
 use mathlib.Core.Bool.{cond}
 use lib.Dec.{eqb}
 use lib.IntN.{ℤ}
 use lib.ListN.{length}
 use lib.Seq.{sets}
 use Rattle.outcome.specs.Outcome.{Res, ok, refuse, listed, refusalOf, Returned}
-use Rattle.chg_colcon.specs.Answers.{countOf, stored}
-use Rattle.chg_colcon.specs.declared.BandAnswer.{BandAnswer}
-use Rattle.chg_colcon.specs.declared.BandAnswer.the-variants as band-answer
+use Rattle.bands_model.specs.Answers.{countOf, stored}
+use Rattle.bands_model.specs.declared.BandAnswer.{BandAnswer}
+use Rattle.bands_model.specs.declared.BandAnswer.the-variants as band-answer
 use Rattle.grammar.specs.Packets.{subpicture}
-use Rattle.packets.specs.Packets.{bodyAt}
-use Rattle.ps.specs.Unit.{unitAt}
-use Rattle.ps.specs.Answers.{unitGiven, unitStored}
-use Rattle.ps.specs.declared.UnitAnswer.{UnitAnswer}
-use Rattle.ps.specs.declared.UnitAnswer.the-variants as unit-answer
-use Rattle.rle.specs.Field.{decoded, paintField}
-use Rattle.rle.specs.Answers.{fieldAnswer}
-use Rattle.rle.specs.declared.FieldAnswer.{FieldAnswer}
-use Rattle.rle.specs.declared.FieldAnswer.the-variants as field-answer
-use Rattle.control.specs.declared.Spu.{Spu}
-use Rattle.idx.specs.Text.{textOf}
-use Rattle.idx.specs.Answers.{linesWith, idxAnswer, startsOf, positionsOf, pickOf, cueAnswer}
-use Rattle.idx.specs.declared.IdxAnswer.{IdxAnswer}
-use Rattle.idx.specs.declared.CueAnswer.{CueAnswer}
-use Rattle.demo.specs.Unit.{demoAt}
-use Rattle.demo.specs.Answers.{demoGiven}
-use Rattle.demo.specs.declared.DemoAnswer.{DemoAnswer}
-use Rattle.demo.specs.declared.DemoAnswer.the-variants as demo-answer
-use Rattle.spu.specs.Unit.{unitIn}
-use Rattle.spu.specs.Answers.{spuAnswer, unitMap, unitBands}
-use Rattle.spu.specs.declared.SpuAnswer.{SpuAnswer}
-use Rattle.spu.specs.declared.SpuAnswer.the-variants as spu-answer
+use Rattle.ps_model.specs.OnePacket.{bodyAt}
+use Rattle.ps_model.specs.Unit.{unitAt}
+use Rattle.ps_model.specs.Answers.{unitGiven, unitStored}
+use Rattle.ps_model.specs.declared.UnitAnswer.{UnitAnswer}
+use Rattle.ps_model.specs.declared.UnitAnswer.the-variants as unit-answer
+use Rattle.rle_model.specs.Field.{decoded, paintField}
+use Rattle.rle_model.specs.Answers.{fieldAnswer}
+use Rattle.rle_model.specs.declared.FieldAnswer.{FieldAnswer}
+use Rattle.rle_model.specs.declared.FieldAnswer.the-variants as field-answer
+use Rattle.idx_model.specs.Text.{textOf}
+use Rattle.idx_model.specs.Answers.{linesWith, idxAnswer, startsOf, positionsOf, pickOf, cueAnswer}
+use Rattle.idx_model.specs.declared.IdxAnswer.{IdxAnswer}
+use Rattle.idx_model.specs.declared.CueAnswer.{CueAnswer}
+use Rattle.demo_model.specs.Unit.{demoAt}
+use Rattle.demo_model.specs.Answers.{demoGiven}
+use Rattle.demo_model.specs.declared.DemoAnswer.{DemoAnswer}
+use Rattle.demo_model.specs.declared.DemoAnswer.the-variants as demo-answer
+use Rattle.spu_model.specs.Unit.{unitIn}
+use Rattle.spu_model.specs.Answers.{spuAnswer, unitMap, unitBands}
+use Rattle.spu_model.specs.declared.SpuAnswer.{SpuAnswer}
+use Rattle.spu_model.specs.declared.SpuAnswer.the-variants as spu-answer
 use Rattle.grammar.specs.Reading.{wanted}
-use Rattle.vobsub.specs.Call.{Lent, foundFor, readingIn}
-use Rattle.vobsub.specs.Answers.{canvasAnswer, scratchOf, pixelsOf, bandsOf, paintedOf}
-use Rattle.vobsub.specs.Claim.{Exactly}
-use Rattle.vobsub.specs.declared.Shown.{Shown}
-use Rattle.vobsub.specs.declared.CanvasAnswer.{CanvasAnswer}
-use Rattle.vobsub.specs.declared.CanvasAnswer.the-variants as canvas-answer
+use Rattle.vobsub_model.specs.Call.{Lent, foundFor, readingIn}
+use Rattle.vobsub_model.specs.Answers.{canvasAnswer, scratchOf, pixelsOf, bandsOf, paintedOf}
+use Rattle.vobsub_model.specs.Claim.{Exactly}
+use Rattle.vobsub_model.specs.declared.CanvasAnswer.{CanvasAnswer}
+use Rattle.vobsub_model.specs.declared.CanvasAnswer.the-variants as canvas-answer
+use Rattle.vobsub_numbers.specs.Numbers.{spuNumbers, idxNumbers, cueNumbers, shownNumbers}
 
 -- the refusal of an answer, 0 where there is none
 abbrev pub bandRefusal : BandAnswer → ℕ
@@ -112,11 +111,6 @@ abbrev pub spuRefusal : SpuAnswer → ℕ
 spuRefusal (spu-answer.Shows s) = 0
 spuRefusal (spu-answer.Refused k) = k
 
--- the numbers of a record in the order of include/vobsub.h
-abbrev pub spuNumbers : Spu → List ℕ
-spuNumbers s =
-    s .x1 ∷ s .y1 ∷ s .x2 ∷ s .y2 ∷ s .«palette_sel» ∷ s .alpha ∷ cond (s .started) 1 0 ∷ s .«start_delay_raw» ∷ cond (s .stopped) 1 0 ∷ s .«stop_delay_raw» ∷ cond (s .«forced_display») 1 0 ∷ s .«top_rle_off» ∷ s .«bot_rle_off» ∷ cond (s .«saw_chg_colcon») 1 0 ∷ s .«band_words» ∷ s .codes ∷ []
-
 -- and of an answer, or those that were there
 abbrev pub spuRecord : SpuAnswer → List ℕ → List ℕ
 spuRecord (spu-answer.Shows s) before = spuNumbers s
@@ -144,10 +138,6 @@ pub record UnitWritten (w h : ℕ) (indices out : List ℕ) (before r : ℕ) (ou
   pub long : after ≡ demoLength (demoGiven (demoAt w h indices (length out))) before
   pub stores : out′ ≡ sets out 0 (listed (demoAt w h indices (length out)))
 
--- size, whether there is a palette and the number of cues in the order of include/vobsub.h
-abbrev pub idxNumbers : IdxAnswer → List ℕ
-idxNumbers a = a .width ∷ a .height ∷ cond (a .«has_palette») 1 0 ∷ a .cues ∷ []
-
 -- and those and the palette where nothing is refused, or what was there
 abbrev pub idxRecord : IdxAnswer → List ℕ → List ℕ
 idxRecord a before = cond (eqb (a .refused) 0) (idxNumbers a) before
@@ -162,10 +152,6 @@ pub record IndexGiven (text : List ℕ) (starts : List ℤ) (positions palette n
   pub colours : palette′ ≡ idxPalette (idxAnswer (linesWith starts positions text)) palette
   pub starts-are : starts′ ≡ sets starts 0 (startsOf (listed (linesWith starts positions text)))
   pub positions-are : positions′ ≡ sets positions 0 (positionsOf (listed (linesWith starts positions text)))
-
--- position, whether there is a duration, the duration, and whether there is a palette in the order of include/vobsub.h
-abbrev pub cueNumbers : CueAnswer → List ℕ
-cueNumbers a = a .position ∷ cond (a .«has_duration») 1 0 ∷ a .duration ∷ cond (a .«has_palette») 1 0 ∷ []
 
 -- and those, the start and the palette where nothing is refused, or what was there
 abbrev pub cueRecord : CueAnswer → List ℕ → List ℕ
@@ -187,11 +173,6 @@ pub record CueGiven (text : List ℕ) (cue : ℕ) (start : ℤ) (palette numbers
 abbrev pub canvasRefusal : CanvasAnswer → ℕ
 canvasRefusal (canvas-answer.Paints s) = 0
 canvasRefusal (canvas-answer.Refused k) = k
-
--- whether there is a duration, the duration, the delays, the place, the size and the number of codes in the order of include/vobsub.h
-abbrev pub shownNumbers : Shown → List ℕ
-shownNumbers s =
-    cond (s .«has_duration») 1 0 ∷ s .duration ∷ s .«start_delay» ∷ s .«stop_delay» ∷ s .x1 ∷ s .y1 ∷ s .width ∷ s .height ∷ s .codes ∷ []
 
 -- those and the start of an answer, or what was there
 abbrev pub canvasRecord : CanvasAnswer → List ℕ → List ℕ

@@ -3,8 +3,8 @@
 // A line of standard input is a row: its name, the cue and how much of scratch, map, words and canvas is lent, the index text, and the file.
 use libc::STDIN_FILENO;
 use libc::STDOUT_FILENO;
-use vobsub::CanvasAnswer;
-use vobsub::Shown;
+use vobsub_model::CanvasAnswer;
+use vobsub_model::Shown;
 
 const FOUND: u8 = 238;
 

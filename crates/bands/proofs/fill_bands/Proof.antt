@@ -5,9 +5,9 @@ use mathlib.Core.Path.{_≡_, sym, _∙_, ap}
 use mathlib.Core.Option.{some}
 use lib.ListN.{length}
 use lib.Seq.{sets}
-use Rattle.control.specs.Chain.{blocksAt}
-use Rattle.bands.proofs.Fill.{unit-read}
-use Rattle.bands.specs.Fill.{chainWords, unitWords}
+use Rattle.control_model.specs.Chain.{blocksAt}
+use Rattle.control_model.proofs.Fill.{unit-read}
+use Rattle.control_model.specs.Fill.{chainWords, unitWords}
 use Rattle.bands.proofs.fill_bands.Statement.{statement}
 use Rattle.bands.proofs.fill_bands.Tie as tie
 

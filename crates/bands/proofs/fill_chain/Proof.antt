@@ -3,7 +3,7 @@ use borrow.Author.Needs.{needs}
 use native.Mathlib.Omega.{arith}
 use Prim.Native.Nat.{_-_}
 use mathlib.Core.Path.{_∙_}
-use Rattle.bands.proofs.Fill.{Chain-filling, chain-starts, chain-ends, chain-has, chain-last, chain-goes}
+use Rattle.control_model.proofs.Fill.{Chain-filling, chain-starts, chain-ends, chain-has, chain-last, chain-goes}
 use Rattle.bands.proofs.fill_chain.Statement.{statement}
 use Rattle.bands.proofs.fill_chain.Tie as tie
 

@@ -5,10 +5,10 @@ use Prim.Native.Nat.{_+_, _≤_}
 use mathlib.Core.Path.{sym, _∙_, ap, subst}
 use lib.ListN.{length}
 use Rattle.grammar.specs.Control.{Order}
-use Rattle.bands.specs.Fill.{orderWords}
+use Rattle.control_model.specs.Fill.{orderWords}
 use lib.Seq.{slice}
 use Rattle.outcome.proofs.Laws.{part-slice, ok-injective}
-use Rattle.bands.proofs.Fill.{change-is, change-known, change-count, change-filled, change-kept}
+use Rattle.control_model.proofs.Fill.{change-is, change-known, change-count, change-filled, change-kept}
 use Rattle.bands.proofs.fill_change.Statement.{statement}
 use Rattle.bands.proofs.fill_change.Tie as tie
 

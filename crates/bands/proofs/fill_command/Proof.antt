@@ -2,10 +2,10 @@
 use borrow.Author.Needs.{needs}
 use native.Mathlib.Omega.{arith}
 use Prim.Native.Nat.{_+_}
-use Rattle.bands.proofs.Fill.{order-changes, order-plain, plain-filled}
+use Rattle.control_model.proofs.Fill.{order-changes, order-plain, plain-filled}
 use mathlib.Core.Path.{ap}
 use Rattle.grammar.specs.Control.{sizeOf}
-use Rattle.control.proofs.Laws.{order-sound}
+use Rattle.control_model.proofs.Grammar.{order-sound}
 use Rattle.bands.proofs.fill_command.Statement.{statement}
 use Rattle.bands.proofs.fill_command.Tie as tie
 

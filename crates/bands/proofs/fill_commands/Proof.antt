@@ -2,7 +2,7 @@
 use borrow.Author.Needs.{needs}
 use native.Mathlib.Omega.{arith}
 use Prim.Native.Nat.{_-_}
-use Rattle.bands.proofs.Fill.{Filling, filling-starts, filling-has, filling-falls, filling-goes, filling-ends}
+use Rattle.control_model.proofs.Fill.{Filling, filling-starts, filling-has, filling-falls, filling-goes, filling-ends}
 use Rattle.bands.proofs.fill_commands.Statement.{statement}
 use Rattle.bands.proofs.fill_commands.Tie as tie
 

@@ -5,8 +5,8 @@ use lib.ListN.{length, take, drop}
 use native.Mathlib.Omega.{arith}
 use mathlib.Core.Path.{sym, refl, _∙_}
 use Prim.Native.Nat.{_≤_, _-_, _+_}
-use Rattle.chg_colcon.specs.Bands.{bandsOf, entriesOf}
-use Rattle.chg_colcon.proofs.Laws.{head-room, entry-room, goes-step, goes-none, goes-end, goes-bad, rest-entries, band-end, band-bad, band-none, band-some, entry-bad, entry-last, entry-more}
+use Rattle.bands_model.specs.Bands.{bandsOf, entriesOf}
+use Rattle.bands_model.proofs.Loops.{head-room, entry-room, goes-step, goes-none, goes-end, goes-bad, rest-entries, band-end, band-bad, band-none, band-some, entry-bad, entry-last, entry-more}
 use Prim.Native.Nat.{ℕ, _<_}
 use borrow.Fn.Kinds.{In}
 use borrow.Fn.PlainCycle.{Measures, is, falls, and}

@@ -5,9 +5,9 @@ use Prim.Native.Nat.{_-_}
 use mathlib.Core.Path.{sym, _∙_}
 use mathlib.Core.List.{[]}
 use lib.ListN.{length, drop}
-use Rattle.chg_colcon.specs.Bands.{bandsOf}
-use Rattle.chg_colcon.specs.Answers.{Ahead}
-use Rattle.chg_colcon.proofs.Laws.{bare-starts, bare-room, bare-step, ahead-long}
+use Rattle.bands_model.specs.Bands.{bandsOf}
+use Rattle.bands_model.specs.Answers.{Ahead}
+use Rattle.bands_model.proofs.Loops.{bare-starts, bare-room, bare-step, ahead-long}
 use Rattle.chg_colcon.proofs.bare_bands.Statement.{statement}
 use Rattle.chg_colcon.proofs.bare_bands.Tie as tie
 

@@ -2,8 +2,8 @@
 use borrow.Author.Needs.{needs}
 use mathlib.Core.List.{List}
 use Prim.Native.Nat.{ℕ}
-use Rattle.chg_colcon.specs.Bands.{bandsOf, entriesOf}
-use Rattle.chg_colcon.proofs.Laws.{goes-same, goes-after, rest-bands, rest-entries}
+use Rattle.bands_model.specs.Bands.{bandsOf, entriesOf}
+use Rattle.bands_model.proofs.Loops.{goes-same, goes-after, rest-bands, rest-entries}
 use Rattle.chg_colcon.proofs.go_on.Statement.{statement}
 use Rattle.chg_colcon.proofs.go_on.Tie as tie
 

@@ -1,7 +1,7 @@
 -- `chg_colcon::header_of` meets its contract. Assumes nothing.
 use borrow.Author.Needs.{needs}
 use borrow.Author.Tests.{eq-eqb, ne-eqb, lt-ltb, le-ltb, le-leb, lt-leb}
-use Rattle.chg_colcon.specs.Bands.{header}
+use Rattle.bands_model.specs.Bands.{header}
 use Rattle.chg_colcon.proofs.header_of.Statement.{statement}
 use Rattle.chg_colcon.proofs.header_of.Tie as tie
 

@@ -5,9 +5,9 @@ use Prim.Native.Nat.{_-_, _≤_}
 use mathlib.Core.Path.{sym, _∙_}
 use mathlib.Core.List.{[]}
 use lib.ListN.{drop}
-use Rattle.chg_colcon.specs.Bands.{entriesOf}
-use Rattle.chg_colcon.specs.Answers.{Ahead}
-use Rattle.chg_colcon.proofs.Laws.{inner-starts, inner-room, inner-step, ahead-long}
+use Rattle.bands_model.specs.Bands.{entriesOf}
+use Rattle.bands_model.specs.Answers.{Ahead}
+use Rattle.bands_model.proofs.Loops.{inner-starts, inner-room, inner-step, ahead-long}
 use Rattle.chg_colcon.proofs.inner_entries.Statement.{statement}
 use Rattle.chg_colcon.proofs.inner_entries.Tie as tie
 

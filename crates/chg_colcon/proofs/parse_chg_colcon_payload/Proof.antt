@@ -2,7 +2,7 @@
 use borrow.Author.Needs.{needs}
 use native.Mathlib.Omega.{arith}
 use mathlib.Core.Path.{sym, _∙_}
-use Rattle.chg_colcon.proofs.Laws.{stored-words, stored-short, stored-none}
+use Rattle.bands_model.proofs.Loops.{stored-words, stored-short, stored-none}
 use Rattle.chg_colcon.proofs.parse_chg_colcon_payload.Statement.{statement}
 use Rattle.chg_colcon.proofs.parse_chg_colcon_payload.Tie as tie
 

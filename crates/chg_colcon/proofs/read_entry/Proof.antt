@@ -1,6 +1,6 @@
 -- `chg_colcon::read_entry` meets its contract. Assumes nothing.
 use borrow.Author.Tests.{lt-ltb, le-ltb}
-use Rattle.chg_colcon.specs.Bands.{entryOf}
+use Rattle.bands_model.specs.Bands.{entryOf}
 use borrow.Author.Needs.{needs}
 use Rattle.chg_colcon.proofs.read_entry.Statement.{statement}
 use Rattle.chg_colcon.proofs.read_entry.Tie as tie

@@ -1,8 +1,8 @@
 -- `chg_colcon::read_head` meets its contract. Assumes nothing.
 use borrow.Author.Needs.{needs}
 use borrow.Author.Tests.{eq-eqb, ne-eqb, lt-ltb}
-use Rattle.chg_colcon.specs.Bands.{headOf}
-use Rattle.chg_colcon.proofs.Laws.{head-words}
+use Rattle.bands_model.specs.Bands.{headOf}
+use Rattle.bands_model.proofs.Loops.{head-words}
 use Rattle.chg_colcon.proofs.read_head.Statement.{statement}
 use Rattle.chg_colcon.proofs.read_head.Tie as tie
 

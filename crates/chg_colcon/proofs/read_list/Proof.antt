@@ -2,7 +2,7 @@
 use borrow.Author.Needs.{needs}
 use native.Mathlib.Omega.{arith}
 use mathlib.Core.Path.{_∙_}
-use Rattle.chg_colcon.proofs.Laws.{Reading, reading-starts, reading-long, reading-ends, reading-fails, reading-less, reading-goes, list-ends, list-fails}
+use Rattle.bands_model.proofs.Loops.{Reading, reading-starts, reading-long, reading-ends, reading-fails, reading-less, reading-goes, list-ends, list-fails}
 use Rattle.chg_colcon.proofs.read_list.Statement.{statement}
 use Rattle.chg_colcon.proofs.read_list.Tie as tie
 

@@ -1,6 +1,6 @@
 -- `chg_colcon::store_words` meets its contract: bands that fit are stored as they are read. Assumes nothing.
 use borrow.Author.Needs.{needs}
-use Rattle.chg_colcon.proofs.Laws.{stored-known}
+use Rattle.bands_model.proofs.Loops.{stored-known}
 use Rattle.chg_colcon.proofs.store_words.Statement.{statement}
 use Rattle.chg_colcon.proofs.store_words.Tie as tie
 

@@ -8,12 +8,12 @@ use lib.ListN.{length}
 use denote.Ref.{now}
 use Rattle.outcome.specs.Outcome.{ok}
 use Rattle.grammar.specs.Bytes.{nibble, nibbles}
-use Rattle.codes.specs.declared.CodeAnswer.the-variants.{Got, Refused}
-use Rattle.codes.specs.Codes.{codeFrom, codeAt, made}
-use Rattle.codes.specs.Answers.{codeAnswer}
-use Rattle.codes.proofs.Laws.{nibble-lt}
-use Rattle.codes.proofs.Turns.{nibbles-step, pow-step, pow-most, code-short, code-hit, code-last, code-next}
-use Rattle.nibbles.proofs.Laws.{is-nibble, ran-out}
+use Rattle.rle_model.specs.declared.CodeAnswer.the-variants.{Got, Refused}
+use Rattle.rle_model.specs.Codes.{codeFrom, codeAt, made}
+use Rattle.rle_model.specs.CodeAnswers.{codeAnswer}
+use Rattle.rle_model.proofs.Grammar.{nibble-lt}
+use Rattle.rle_model.proofs.CodeLoops.{nibbles-step, pow-step, pow-most, code-short, code-hit, code-last, code-next}
+use Rattle.rle_model.proofs.Nibbles.{is-nibble, ran-out}
 use Rattle.codes.proofs.read_code.Statement.{statement}
 use Rattle.codes.proofs.read_code.Tie as tie
 

@@ -4,9 +4,9 @@ use native.Mathlib.Omega.{arith}
 use mathlib.Core.Path.{sym, _∙_}
 use mathlib.Core.Option.{some}
 use Rattle.grammar.specs.Record.{untold}
-use Rattle.control.specs.Chain.{blocksAt}
-use Rattle.control.specs.Answers.{chainAnswer}
-use Rattle.control.proofs.Turns.{unit-short, unit-early, unit-late, unit-past, unit-refused, unit-narrow, unit-low, unit-told}
+use Rattle.control_model.specs.Chain.{blocksAt}
+use Rattle.control_model.specs.Answers.{chainAnswer}
+use Rattle.control_model.proofs.Loops.{unit-short, unit-early, unit-late, unit-past, unit-refused, unit-narrow, unit-low, unit-told}
 use Rattle.control.proofs.parse_control.Statement.{statement}
 use Rattle.control.proofs.parse_control.Tie as tie
 

@@ -4,7 +4,7 @@ use native.Mathlib.Omega.{arith}
 use Prim.Native.Nat.{_+_}
 use mathlib.Core.Path.{refl, sym, _∙_}
 use Rattle.outcome.proofs.Laws.{part-slice}
-use Rattle.control.proofs.Turns.{change-cut, change-small, change-past, change-none, change-bands, change-told}
+use Rattle.control_model.proofs.Loops.{change-cut, change-small, change-past, change-none, change-bands, change-told}
 use Rattle.control.proofs.read_change.Statement.{statement}
 use Rattle.control.proofs.read_change.Tie as tie
 

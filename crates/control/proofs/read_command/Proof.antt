@@ -3,8 +3,8 @@ use borrow.Author.Needs.{needs}
 use native.Mathlib.Omega.{arith}
 use Prim.Native.Nat.{_+_}
 use mathlib.Core.Path.{_∙_, ap}
-use Rattle.control.specs.Answers.{orderAnswer}
-use Rattle.control.proofs.Turns.{order-change, order-unknown, order-cut, order-told}
+use Rattle.control_model.specs.Answers.{orderAnswer}
+use Rattle.control_model.proofs.Loops.{order-change, order-unknown, order-cut, order-told}
 use Rattle.control.proofs.read_command.Statement.{statement}
 use Rattle.control.proofs.read_command.Tie as tie
 

@@ -3,7 +3,7 @@ use borrow.Author.Needs.{needs}
 use native.Mathlib.Omega.{arith}
 use Prim.Native.Nat.{_-_}
 use mathlib.Core.Path.{sym, _∙_}
-use Rattle.control.proofs.Turns.{Commanding, commanding-starts, commanding-falls, commanding-goes, commanding-ends, commanding-refuses}
+use Rattle.control_model.proofs.Loops.{Commanding, commanding-starts, commanding-falls, commanding-goes, commanding-ends, commanding-refuses}
 use Rattle.control.proofs.read_commands.Statement.{statement}
 use Rattle.control.proofs.read_commands.Tie as tie
 

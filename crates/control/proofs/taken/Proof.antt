@@ -1,6 +1,6 @@
 -- `control::taken` meets its contract: by the table of commands. Assumes nothing.
 use native.Mathlib.Omega.{arith}
-use Rattle.control.proofs.Told.{taken-none, taken-two, taken-six, taken-four}
+use Rattle.control_model.proofs.Told.{taken-none, taken-two, taken-six, taken-four}
 use Rattle.control.proofs.taken.Statement.{statement}
 use Rattle.control.proofs.taken.Tie as tie
 

@@ -3,7 +3,7 @@ use borrow.Author.Needs.{needs}
 use native.Mathlib.Omega.{arith}
 use Prim.Native.Nat.{_+_}
 use mathlib.Core.Path.{_∙_}
-use Rattle.control.proofs.Bits.{twelve-to}
+use Rattle.control_model.proofs.Bits.{twelve-to}
 use Rattle.control.proofs.twelve_to.Statement.{statement}
 use Rattle.control.proofs.twelve_to.Tie as tie
 

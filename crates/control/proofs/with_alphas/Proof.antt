@@ -1,5 +1,5 @@
 -- `control::with_alphas` meets its contract: one value is another. Assumes nothing.
-use Rattle.control.proofs.Told.{alphas-told}
+use Rattle.control_model.proofs.Told.{alphas-told}
 use Rattle.control.proofs.with_alphas.Statement.{statement}
 use Rattle.control.proofs.with_alphas.Tie as tie
 

@@ -1,5 +1,5 @@
 -- `control::with_area` meets its contract: four values are others. Assumes nothing.
-use Rattle.control.proofs.Told.{area-told}
+use Rattle.control_model.proofs.Told.{area-told}
 use Rattle.control.proofs.with_area.Statement.{statement}
 use Rattle.control.proofs.with_area.Tie as tie
 

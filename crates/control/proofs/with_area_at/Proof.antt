@@ -1,7 +1,7 @@
 -- `control::with_area_at` meets its contract: four numbers of three nibbles. Assumes nothing.
 use borrow.Author.Needs.{needs}
 use mathlib.Core.Path.{_∙_}
-use Rattle.control.proofs.Told.{area-read}
+use Rattle.control_model.proofs.Told.{area-read}
 use Rattle.control.proofs.with_area_at.Statement.{statement}
 use Rattle.control.proofs.with_area_at.Tie as tie
 

@@ -1,5 +1,5 @@
 -- `control::with_bands` meets its contract: words are added. Assumes nothing.
-use Rattle.control.proofs.Told.{bands-told}
+use Rattle.control_model.proofs.Told.{bands-told}
 use borrow.Author.Needs.{needs}
 use borrow.Author.Needs.{needs}
 use Rattle.control.proofs.with_bands.Statement.{statement}

@@ -1,5 +1,5 @@
 -- `control::with_forced_start` meets its contract: a start, and it was forced. Assumes nothing.
-use Rattle.control.proofs.Told.{forced-told}
+use Rattle.control_model.proofs.Told.{forced-told}
 use borrow.Author.Needs.{needs}
 use Rattle.control.proofs.with_forced_start.Statement.{statement}
 use Rattle.control.proofs.with_forced_start.Tie as tie

@@ -1,5 +1,5 @@
 -- `control::with_offsets` meets its contract: two values are others. Assumes nothing.
-use Rattle.control.proofs.Told.{offsets-told}
+use Rattle.control_model.proofs.Told.{offsets-told}
 use Rattle.control.proofs.with_offsets.Statement.{statement}
 use Rattle.control.proofs.with_offsets.Tie as tie
 

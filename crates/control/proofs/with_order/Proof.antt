@@ -2,8 +2,8 @@
 use borrow.Author.Needs.{needs}
 use native.Mathlib.Omega.{arith}
 use Rattle.grammar.specs.Control.{selectors, alphas}
-use Rattle.control.proofs.Told.{told-as, size-as, given-one, given-two}
-use Rattle.control.specs.Chain.{plainAt}
+use Rattle.control_model.proofs.Told.{told-as, size-as, given-one, given-two}
+use Rattle.control_model.specs.Chain.{plainAt}
 use Rattle.control.proofs.with_order.Statement.{statement}
 use Rattle.control.proofs.with_order.Tie as tie
 

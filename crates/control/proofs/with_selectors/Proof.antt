@@ -1,5 +1,5 @@
 -- `control::with_selectors` meets its contract: one value is another. Assumes nothing.
-use Rattle.control.proofs.Told.{selectors-told}
+use Rattle.control_model.proofs.Told.{selectors-told}
 use Rattle.control.proofs.with_selectors.Statement.{statement}
 use Rattle.control.proofs.with_selectors.Tie as tie
 

@@ -1,5 +1,5 @@
 -- `control::with_start` meets its contract: the first start counts. Assumes nothing.
-use Rattle.control.proofs.Told.{started-told, start-told}
+use Rattle.control_model.proofs.Told.{started-told, start-told}
 use Rattle.control.proofs.with_start.Statement.{statement}
 use Rattle.control.proofs.with_start.Tie as tie
 

@@ -1,5 +1,5 @@
 -- `control::with_stop` meets its contract: the last stop counts. Assumes nothing.
-use Rattle.control.proofs.Told.{stop-told}
+use Rattle.control_model.proofs.Told.{stop-told}
 use Rattle.control.proofs.with_stop.Statement.{statement}
 use Rattle.control.proofs.with_stop.Tie as tie
 

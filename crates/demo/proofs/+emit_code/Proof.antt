@@ -1,7 +1,7 @@
 -- `demo::emit_code` meets its contract: the last nibble after those before it. Assumes nothing.
 use borrow.Author.Needs.{needs}
 use native.Mathlib.Omega.{arith}
-use Rattle.demo.proofs.Ink.{digits-none, digits-more}
+use Rattle.demo_model.proofs.Ink.{digits-none, digits-more}
 use Prim.Native.Nat.{ℕ, _<_}
 use borrow.Fn.Kinds.{In}
 use borrow.Fn.PlainCycle.{Measures, is, falls, and}

@@ -4,9 +4,9 @@ use native.Mathlib.Omega.{arith}
 use mathlib.Core.Path.{sym, ap, _∙_}
 use mathlib.Core.List.{List, _++_, append-assoc}
 use Prim.Native.Nat.{_+_, _*_, _-_}
-use Rattle.demo.specs.Codes.{digits, nibblesOf, runMarks}
-use Rattle.demo.proofs.Marks.{sized}
-use Rattle.demo.proofs.Ink.{inked-as, cut-short, cut-long}
+use Rattle.demo_model.specs.Codes.{digits, nibblesOf, runMarks}
+use Rattle.demo_model.proofs.Marks.{sized}
+use Rattle.demo_model.proofs.Ink.{inked-as, cut-short, cut-long}
 use Prim.Native.Nat.{ℕ, _<_}
 use borrow.Fn.Kinds.{In}
 use borrow.Fn.PlainCycle.{Measures, is, falls, and}

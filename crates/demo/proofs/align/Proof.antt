@@ -1,7 +1,7 @@
 -- `demo::align` meets its contract: an odd number of nibbles gets one more. Assumes nothing.
 use borrow.Author.Needs.{needs}
 use native.Mathlib.Omega.{arith}
-use Rattle.demo.proofs.Ink.{evened-even, evened-odd}
+use Rattle.demo_model.proofs.Ink.{evened-even, evened-odd}
 use Rattle.demo.proofs.align.Statement.{statement}
 use Rattle.demo.proofs.align.Tie as tie
 

@@ -2,7 +2,7 @@
 use native.Mathlib.Omega.{arith}
 use Prim.Native.Nat.{_-_}
 use lib.ListN.{length}
-use Rattle.demo.proofs.Picture.{Coloured, coloured-starts, coloured-more, coloured-not, coloured-all}
+use Rattle.demo_model.proofs.Picture.{Coloured, coloured-starts, coloured-more, coloured-not, coloured-all}
 use Rattle.demo.proofs.all_colours.Statement.{statement}
 use Rattle.demo.proofs.all_colours.Tie as tie
 

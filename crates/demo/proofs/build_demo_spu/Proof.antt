@@ -2,8 +2,8 @@
 use native.Mathlib.Omega.{arith}
 use mathlib.Core.Path.{sym, _∙_}
 use Rattle.outcome.proofs.Laws.{not-true, not-false}
-use Rattle.demo.proofs.Picture.{sides-small}
-use Rattle.demo.proofs.Whole.{demo-width, demo-height, demo-count, demo-colours, demo-sound, demo-written}
+use Rattle.demo_model.proofs.Picture.{sides-small}
+use Rattle.demo_model.proofs.Whole.{demo-width, demo-height, demo-count, demo-colours, demo-sound, demo-written}
 use borrow.Author.Needs.{needs}
 use Rattle.demo.proofs.build_demo_spu.Statement.{statement}
 use Rattle.demo.proofs.build_demo_spu.Tie as tie

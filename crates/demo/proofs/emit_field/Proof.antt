@@ -3,10 +3,10 @@ use native.Mathlib.Omega.{arith}
 use mathlib.Core.Path.{ap, _∙_}
 use mathlib.Core.List.{List, _++_}
 use Prim.Native.Nat.{ℕ, _+_, _-_}
-use Rattle.demo.specs.Codes.{lastMarks, nibblesOf, rowMarks}
-use Rattle.demo.specs.Codes.{evened}
-use Rattle.demo.proofs.Ink.{inked-as}
-use Rattle.demo.proofs.Picture.{row-fits, row-small, Fielding, fielding-starts, fielding-ends, fielding-goes, row-part, row-part-length, row-part-four}
+use Rattle.demo_model.specs.Codes.{lastMarks, nibblesOf, rowMarks}
+use Rattle.demo_model.specs.Codes.{evened}
+use Rattle.demo_model.proofs.Ink.{inked-as}
+use Rattle.demo_model.proofs.Picture.{row-fits, row-small, Fielding, fielding-starts, fielding-ends, fielding-goes, row-part, row-part-length, row-part-four}
 use Rattle.demo.proofs.emit_field.Statement.{statement}
 use Rattle.demo.proofs.emit_field.Tie as tie
 

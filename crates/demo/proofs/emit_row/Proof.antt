@@ -6,8 +6,8 @@ use mathlib.Core.List.{List}
 use Prim.Native.Nat.{ℕ, _-_}
 use lib.ListN.{length}
 use Rattle.grammar.specs.Bytes.{byte}
-use Rattle.demo.specs.Codes.{lead}
-use Rattle.demo.proofs.Ink.{Rowing, rowing-starts, rowing-none, rowing-ends, rowing-goes, rest-is, rest-length, four-byte}
+use Rattle.demo_model.specs.Codes.{lead}
+use Rattle.demo_model.proofs.Ink.{Rowing, rowing-starts, rowing-none, rowing-ends, rowing-goes, rest-is, rest-length, four-byte}
 use Rattle.demo.proofs.emit_row.Statement.{statement}
 use Rattle.demo.proofs.emit_row.Tie as tie
 

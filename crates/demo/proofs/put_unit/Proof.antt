@@ -1,5 +1,5 @@
 -- `demo::put_unit` meets its contract: its head, its fields and its control block. Assumes nothing.
-use Rattle.demo.proofs.Whole.{unit-put}
+use Rattle.demo_model.proofs.Whole.{unit-put}
 use borrow.Author.Needs.{needs}
 use Rattle.demo.proofs.put_unit.Statement.{statement}
 use Rattle.demo.proofs.put_unit.Tie as tie

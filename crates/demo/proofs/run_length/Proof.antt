@@ -3,7 +3,7 @@ use native.Mathlib.Omega.{arith}
 use Prim.Native.Nat.{_-_}
 use lib.ListN.{length}
 use Rattle.grammar.specs.Bytes.{byte}
-use Rattle.demo.proofs.Ink.{Leading, leading-starts, leading-more, leading-other, leading-end}
+use Rattle.demo_model.proofs.Ink.{Leading, leading-starts, leading-more, leading-other, leading-end}
 use Rattle.demo.proofs.run_length.Statement.{statement}
 use Rattle.demo.proofs.run_length.Tie as tie
 

@@ -2,7 +2,7 @@
 use borrow.Author.Needs.{needs}
 use native.Mathlib.Omega.{arith}
 use mathlib.Core.Path.{refl}
-use Rattle.demo.proofs.Ink.{ink-even, ink-odd}
+use Rattle.demo_model.proofs.Ink.{ink-even, ink-odd}
 use Rattle.demo.proofs.write.Statement.{statement}
 use Rattle.demo.proofs.write.Tie as tie
 

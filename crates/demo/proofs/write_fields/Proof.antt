@@ -1,7 +1,7 @@
 -- `demo::write_fields` meets its contract: the top field, and then the bottom field. Assumes nothing.
 use native.Mathlib.Omega.{arith}
 use mathlib.Core.Path.{refl}
-use Rattle.demo.proofs.Whole.{fields-written}
+use Rattle.demo_model.proofs.Whole.{fields-written}
 use borrow.Author.Needs.{needs}
 use Rattle.demo.proofs.write_fields.Statement.{statement}
 use Rattle.demo.proofs.write_fields.Tie as tie

@@ -4,9 +4,9 @@ use mathlib.Core.Path.{ap, _∙_}
 use mathlib.Core.List.{List}
 use Prim.Native.Nat.{ℕ}
 use lib.Seq.{sets}
-use Rattle.demo.specs.Codes.{lastMarks}
-use Rattle.demo.specs.Unit.{unitOf}
-use Rattle.demo.proofs.Whole.{unit-long, unit-short, unit-fits, measured-none}
+use Rattle.demo_model.specs.Codes.{lastMarks}
+use Rattle.demo_model.specs.Unit.{unitOf}
+use Rattle.demo_model.proofs.Whole.{unit-long, unit-short, unit-fits, measured-none}
 use borrow.Author.Needs.{needs}
 use Rattle.demo.proofs.write_unit.Statement.{statement}
 use Rattle.demo.proofs.write_unit.Tie as tie

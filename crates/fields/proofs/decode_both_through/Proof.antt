@@ -1,8 +1,8 @@
 -- `fields::decode_both_through` meets its contract: the second field is measured first, and a refusal of it leaves the map as found. Assumes nothing.
 use mathlib.Core.Path.{sym, _∙_}
 use borrow.Author.Needs.{needs}
-use Rattle.rle.proofs.Kept.{ready}
-use Rattle.fields.proofs.Both.{lower-refused}
+use Rattle.rle_model.proofs.Kept.{ready}
+use Rattle.rle_model.proofs.Both.{lower-refused}
 use Rattle.fields.proofs.decode_both_through.Statement.{statement}
 use Rattle.fields.proofs.decode_both_through.Tie as tie
 

@@ -2,7 +2,7 @@
 use native.Mathlib.Omega.{arith}
 use mathlib.Core.Path.{sym, _∙_}
 use borrow.Author.Needs.{needs}
-use Rattle.fields.proofs.Both.{sum-fits, upper-refused, lower-painted}
+use Rattle.rle_model.proofs.Both.{sum-fits, upper-refused, lower-painted}
 use Rattle.fields.proofs.decode_over.Statement.{statement}
 use Rattle.fields.proofs.decode_over.Tie as tie
 

@@ -1,6 +1,6 @@
 -- `fields::decode_rle_fields` meets its contract: the fields as slices of their own paint what the unit's rows paint. Assumes nothing.
 use borrow.Author.Needs.{needs}
-use Rattle.fields.proofs.Both.{rows-upper, rows-lower, room-fits, fields-none, shown-decoded, blank-decoded}
+use Rattle.rle_model.proofs.Both.{rows-upper, rows-lower, room-fits, fields-none, shown-decoded, blank-decoded}
 use Rattle.fields.proofs.decode_rle_fields.Statement.{statement}
 use Rattle.fields.proofs.decode_rle_fields.Tie as tie
 

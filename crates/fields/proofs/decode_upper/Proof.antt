@@ -1,7 +1,7 @@
 -- `fields::decode_upper` meets its contract: the field painted and then rows that stay 0, or a refusal before any store. Assumes nothing.
 use mathlib.Core.Path.{sym, _∙_}
 use borrow.Author.Needs.{needs}
-use Rattle.fields.proofs.Both.{upper-refused, upper-painted}
+use Rattle.rle_model.proofs.Both.{upper-refused, upper-painted}
 use Rattle.fields.proofs.decode_upper.Statement.{statement}
 use Rattle.fields.proofs.decode_upper.Tie as tie
 

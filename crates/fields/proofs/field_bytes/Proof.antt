@@ -1,6 +1,6 @@
 -- `fields::field_bytes` meets its contract: a start past the end leaves nothing. Assumes nothing.
 use borrow.Author.Needs.{needs}
-use Rattle.fields.proofs.Part.{part-taken}
+use Rattle.rle_model.proofs.Part.{part-taken}
 use Rattle.fields.proofs.field_bytes.Statement.{statement}
 use Rattle.fields.proofs.field_bytes.Tie as tie
 

@@ -4,10 +4,10 @@ use native.Mathlib.Omega.{arith}
 use mathlib.Core.Path.{_≡_, refl, _∙_}
 use mathlib.Core.List.{List}
 use lib.ListN.{length}
-use Rattle.rle.specs.Field.{paintField}
-use Rattle.fields.specs.Fields.{blankRows}
-use Rattle.rle.proofs.Turns.{mul-pred}
-use Rattle.fields.proofs.Both.{blank-more, blank-end}
+use Rattle.rle_model.specs.Field.{paintField}
+use Rattle.rle_model.specs.Fields.{blankRows}
+use Rattle.rle_model.proofs.Loops.{mul-pred}
+use Rattle.rle_model.proofs.Both.{blank-more, blank-end}
 use Rattle.fields.proofs.fill_blank.Statement.{statement}
 use Rattle.fields.proofs.fill_blank.Tie as tie
 

@@ -2,7 +2,7 @@
 use native.Mathlib.Omega.{arith}
 use mathlib.Core.Path.{sym, _∙_}
 use borrow.Author.Needs.{needs}
-use Rattle.fields.proofs.Both.{field-most, measured-rows, measured-refused}
+use Rattle.rle_model.proofs.Both.{field-most, measured-rows, measured-refused}
 use Rattle.fields.proofs.measure_both.Statement.{statement}
 use Rattle.fields.proofs.measure_both.Tie as tie
 

@@ -1,7 +1,7 @@
 -- `fields::measure_fields` meets its contract: the fields as slices of their own count what the unit's rows count. Assumes nothing.
 use native.Mathlib.Omega.{arith}
 use borrow.Author.Needs.{needs}
-use Rattle.fields.proofs.Both.{both-few, rows-upper, rows-lower, shown-measured, blank-measured}
+use Rattle.rle_model.proofs.Both.{both-few, rows-upper, rows-lower, shown-measured, blank-measured}
 use Rattle.fields.proofs.measure_fields.Statement.{statement}
 use Rattle.fields.proofs.measure_fields.Tie as tie
 

@@ -2,7 +2,7 @@
 use native.Mathlib.Omega.{arith}
 use mathlib.Core.Path.{sym, _∙_}
 use borrow.Author.Needs.{needs}
-use Rattle.fields.proofs.Both.{field-most, more-rows, more-refused}
+use Rattle.rle_model.proofs.Both.{field-most, more-rows, more-refused}
 use Rattle.fields.proofs.measure_more.Statement.{statement}
 use Rattle.fields.proofs.measure_more.Tie as tie
 

@@ -1,5 +1,5 @@
 -- `idx::accepted_idx` meets its contract: what was seen is what the lines give. Assumes nothing.
-use Rattle.idx.proofs.Picks.{idx-answer}
+use Rattle.idx_model.proofs.Picks.{idx-answer}
 use Rattle.idx.proofs.accepted_idx.Statement.{statement}
 use Rattle.idx.proofs.accepted_idx.Tie as tie
 

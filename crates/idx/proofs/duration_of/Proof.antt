@@ -3,8 +3,8 @@ use native.Mathlib.Omega.{arith}
 use lib.IntN.{pos}
 use mir.Syntax.{w64}
 use mir.Facts.{toZ-ofZ}
-use Rattle.idx_numbers.proofs.Times.{yes-lt, no-lt, mixed-right}
-use Rattle.idx.proofs.Durations.{no-time, most-time, later-below, later-above, time-fits, time-cast, time-is}
+use Rattle.idx_numbers_model.proofs.Times.{yes-lt, no-lt, mixed-right}
+use Rattle.idx_model.proofs.Durations.{no-time, most-time, later-below, later-above, time-fits, time-cast, time-is}
 use Rattle.idx.proofs.duration_of.Statement.{statement}
 use Rattle.idx.proofs.duration_of.Tie as tie
 

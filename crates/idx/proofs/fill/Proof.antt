@@ -3,8 +3,8 @@ use borrow.Author.Needs.{needs}
 use native.Mathlib.Omega.{arith}
 use Prim.Native.Nat.{_-_, _+_}
 use lib.ListN.{length}
-use Rattle.idx.proofs.Turns.{line-in}
-use Rattle.idx.proofs.Stores.{Filling, filling-starts, fill-fits, filling-next, filling-done, long-starts, long-positions}
+use Rattle.idx_model.proofs.Loops.{line-in}
+use Rattle.idx_model.proofs.Stores.{Filling, filling-starts, fill-fits, filling-next, filling-done, long-starts, long-positions}
 use Rattle.idx.proofs.fill.Statement.{statement}
 use Rattle.idx.proofs.fill.Tie as tie
 

@@ -5,9 +5,9 @@ use mathlib.Core.Path.{_≡_, _∙_}
 use mathlib.Core.Logic.{⊎-elim}
 use Prim.Native.Nat.{_≤_, _-_}
 use lib.ListN.{length, take}
-use Rattle.idx_numbers.specs.Parts.{all}
-use Rattle.idx.specs.Text.{lowByte}
-use Rattle.idx.proofs.Turns.{low-starts, low-lost, low-kept, low-done}
+use Rattle.idx_numbers_model.specs.Parts.{all}
+use Rattle.idx_model.specs.Text.{lowByte}
+use Rattle.idx_model.proofs.Loops.{low-starts, low-lost, low-kept, low-done}
 use Rattle.idx.proofs.is_low.Statement.{statement}
 use Rattle.idx.proofs.is_low.Tie as tie
 

@@ -1,7 +1,7 @@
 -- `idx::measure` meets its contract: by whether all bytes are low. Assumes nothing.
 use borrow.Author.Needs.{needs}
 use borrow.Author.Tests.{not-true, not-false}
-use Rattle.idx.proofs.Turns.{text-high, text-low}
+use Rattle.idx_model.proofs.Loops.{text-high, text-low}
 use Rattle.idx.proofs.measure.Statement.{statement}
 use Rattle.idx.proofs.measure.Tie as tie
 

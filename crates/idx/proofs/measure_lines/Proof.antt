@@ -4,7 +4,7 @@ use native.Mathlib.Omega.{arith}
 use mathlib.Core.Path.{refl}
 use Prim.Native.Nat.{_-_, _+_}
 use lib.ListN.{length}
-use Rattle.idx.proofs.Turns.{Measuring, measuring-starts, measuring-refused, measuring-done, measuring-next, line-in}
+use Rattle.idx_model.proofs.Loops.{Measuring, measuring-starts, measuring-refused, measuring-done, measuring-next, line-in}
 use Rattle.idx.proofs.measure_lines.Statement.{statement}
 use Rattle.idx.proofs.measure_lines.Tie as tie
 

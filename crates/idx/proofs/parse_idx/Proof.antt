@@ -1,6 +1,6 @@
 -- `idx::parse_idx` meets its contract: measured first, stored after. Assumes nothing.
 use borrow.Author.Needs.{needs}
-use Rattle.idx.proofs.Whole.{idx-refused, idx-is-ok, idx-accepted}
+use Rattle.idx_model.proofs.Whole.{idx-refused, idx-is-ok, idx-accepted}
 use Rattle.idx.proofs.parse_idx.Statement.{statement}
 use Rattle.idx.proofs.parse_idx.Tie as tie
 

@@ -1,7 +1,7 @@
 -- `idx::pick_cue` meets its contract: measured, and the cue picked from what was seen. Assumes nothing.
 use borrow.Author.Needs.{needs}
 use native.Mathlib.Omega.{arith}
-use Rattle.idx.proofs.Whole.{cue-refused, cue-picked}
+use Rattle.idx_model.proofs.Whole.{cue-refused, cue-picked}
 use Rattle.idx.proofs.pick_cue.Statement.{statement}
 use Rattle.idx.proofs.pick_cue.Tie as tie
 

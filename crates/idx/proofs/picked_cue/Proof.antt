@@ -5,7 +5,7 @@ use lib.IntN.{ℤ, _-ℤ_}
 use mir.Syntax.{w64}
 use mir.Facts.{toZ-ofZ}
 use Rattle.grammar.specs.IndexCues.{clip}
-use Rattle.idx.proofs.Picks.{pick-none, pick-last, pick-next}
+use Rattle.idx_model.proofs.Picks.{pick-none, pick-last, pick-next}
 use Rattle.idx.proofs.picked_cue.Statement.{statement}
 use Rattle.idx.proofs.picked_cue.Tie as tie
 

@@ -1,6 +1,6 @@
 -- `idx::refused_cue` meets its contract: all else is 0. Assumes nothing.
 use mathlib.Core.Path.{refl}
-use Rattle.idx.specs.Answers.{cueAnswer}
+use Rattle.idx_model.specs.Answers.{cueAnswer}
 use Rattle.idx.proofs.refused_cue.Statement.{statement}
 use Rattle.idx.proofs.refused_cue.Tie as tie
 

@@ -1,6 +1,6 @@
 -- `idx::refused_idx` meets its contract: all else is 0. Assumes nothing.
 use mathlib.Core.Path.{refl}
-use Rattle.idx.specs.Answers.{idxAnswer}
+use Rattle.idx_model.specs.Answers.{idxAnswer}
 use Rattle.idx.proofs.refused_idx.Statement.{statement}
 use Rattle.idx.proofs.refused_idx.Tie as tie
 

@@ -3,7 +3,7 @@ use borrow.Author.Needs.{needs}
 use native.Mathlib.Omega.{arith}
 use mir.Syntax.{w64}
 use mir.Facts.{toZ-ofZ}
-use Rattle.idx.proofs.Turns.{saw-refused, saw-nothing, saw-size, saw-palette, saw-full, saw-cue}
+use Rattle.idx_model.proofs.Loops.{saw-refused, saw-nothing, saw-size, saw-palette, saw-full, saw-cue}
 use Rattle.idx.proofs.seen_line.Statement.{statement}
 use Rattle.idx.proofs.seen_line.Tie as tie
 

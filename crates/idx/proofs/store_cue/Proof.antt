@@ -6,8 +6,8 @@ use lib.ListN.{length}
 use borrow.Author.Needs.{scaled-fits}
 use mir.Syntax.{w64}
 use mir.Facts.{toZ-ofZ}
-use Rattle.idx.specs.Answers.{lineStarts, linePositions}
-use Rattle.idx.proofs.Stores.{stored-none, stored-cue, cue-fits}
+use Rattle.idx_model.specs.Answers.{lineStarts, linePositions}
+use Rattle.idx_model.proofs.Stores.{stored-none, stored-cue, cue-fits}
 use Rattle.idx.proofs.store_cue.Statement.{statement}
 use Rattle.idx.proofs.store_cue.Tie as tie
 

@@ -1,7 +1,7 @@
 -- `idx::with_cue` meets its contract: before the cue, at it, after it. Assumes nothing.
 use mir.Syntax.{w64}
 use mir.Facts.{toZ-ofZ}
-use Rattle.idx.proofs.Turns.{cue-before, cue-met, cue-next, cue-after}
+use Rattle.idx_model.proofs.Loops.{cue-before, cue-met, cue-next, cue-after}
 use Rattle.idx.proofs.with_cue.Statement.{statement}
 use Rattle.idx.proofs.with_cue.Tie as tie
 

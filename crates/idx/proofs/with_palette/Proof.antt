@@ -1,5 +1,5 @@
 -- `idx::with_palette` meets its contract: by whether there is a colour. Assumes nothing.
-use Rattle.idx.proofs.Turns.{palette-any, palette-none}
+use Rattle.idx_model.proofs.Loops.{palette-any, palette-none}
 use Rattle.idx.proofs.with_palette.Statement.{statement}
 use Rattle.idx.proofs.with_palette.Tie as tie
 

@@ -2,7 +2,7 @@
 use borrow.Author.Needs.{needs}
 use native.Mathlib.Omega.{arith}
 use Prim.Native.Nat.{_+_, _*_}
-use Rattle.idx_lines.proofs.Fields.{count-over, count-none, count-end, count-colon, count-other, run-inside}
+use Rattle.idx_lines_model.proofs.Fields.{count-over, count-none, count-end, count-colon, count-other, run-inside}
 use Rattle.idx_lines.proofs.count_at.Statement.{statement}
 use Rattle.idx_lines.proofs.count_at.Tie as tie
 

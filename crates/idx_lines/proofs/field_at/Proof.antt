@@ -2,7 +2,7 @@
 use borrow.Author.Needs.{needs}
 use native.Mathlib.Omega.{arith}
 use mathlib.Core.Path.{refl}
-use Rattle.idx_lines.proofs.Fields.{field-missing, field-empty, plain-bad, plain-good, counted-most, counted-in}
+use Rattle.idx_lines_model.proofs.Fields.{field-missing, field-empty, plain-bad, plain-good, counted-most, counted-in}
 use Rattle.idx_lines.proofs.field_at.Statement.{statement}
 use Rattle.idx_lines.proofs.field_at.Tie as tie
 

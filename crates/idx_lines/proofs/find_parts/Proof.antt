@@ -4,7 +4,7 @@ use native.Mathlib.Omega.{arith}
 use mathlib.Core.Path.{refl}
 use Prim.Native.Nat.{_-_, _+_}
 use lib.ListN.{length}
-use Rattle.idx_lines.proofs.Places.{Finding, finding-starts, finding-next, finding-done, end-in, blanks-in, kept-in}
+use Rattle.idx_lines_model.proofs.Places.{Finding, finding-starts, finding-next, finding-done, end-in, blanks-in, kept-in}
 use Rattle.idx_lines.proofs.find_parts.Statement.{statement}
 use Rattle.idx_lines.proofs.find_parts.Tie as tie
 

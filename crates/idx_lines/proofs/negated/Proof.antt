@@ -1,7 +1,7 @@
 -- `idx_lines::negated` meets its contract: 0, or one less than nothing. Assumes nothing.
 use borrow.Author.Needs.{needs}
 use native.Mathlib.Omega.{arith}
-use Rattle.idx_lines.proofs.Fields.{zero-negated, minus-fits, minus-is}
+use Rattle.idx_lines_model.proofs.Fields.{zero-negated, minus-fits, minus-is}
 use Rattle.idx_lines.proofs.negated.Statement.{statement}
 use Rattle.idx_lines.proofs.negated.Tie as tie
 

@@ -1,5 +1,5 @@
 -- `idx_lines::noted` meets its contract: by what the part is, and what was found. Assumes nothing.
-use Rattle.idx_lines.proofs.Places.{noted-position, noted-known, noted-time}
+use Rattle.idx_lines_model.proofs.Places.{noted-position, noted-known, noted-time}
 use Rattle.idx_lines.proofs.noted.Statement.{statement}
 use Rattle.idx_lines.proofs.noted.Tie as tie
 

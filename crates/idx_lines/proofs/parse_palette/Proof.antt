@@ -2,7 +2,7 @@
 use borrow.Author.Needs.{needs}
 use native.Mathlib.Omega.{arith}
 use Prim.Native.Nat.{_-_}
-use Rattle.idx_lines.proofs.Palettes.{Colouring, colouring-starts, colouring-ends, colouring-wrong, colouring-more, colouring-full, gap-in, token-in}
+use Rattle.idx_lines_model.proofs.Palettes.{Colouring, colouring-starts, colouring-ends, colouring-wrong, colouring-more, colouring-full, gap-in, token-in}
 use Rattle.idx_lines.proofs.parse_palette.Statement.{statement}
 use Rattle.idx_lines.proofs.parse_palette.Tie as tie
 

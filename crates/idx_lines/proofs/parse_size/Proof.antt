@@ -3,8 +3,8 @@ use borrow.Author.Needs.{needs}
 use native.Mathlib.Omega.{arith}
 use mathlib.Core.Path.{sym}
 use lib.Seq.{length-take-le}
-use Rattle.idx_numbers.proofs.Steps.{value-le}
-use Rattle.idx_lines.proofs.Sizes.{size-nothing, size-bad-width, size-bad-height, size-good}
+use Rattle.idx_numbers_model.proofs.Steps.{value-le}
+use Rattle.idx_lines_model.proofs.Sizes.{size-nothing, size-bad-width, size-bad-height, size-good}
 use Rattle.idx_lines.proofs.parse_size.Statement.{statement}
 use Rattle.idx_lines.proofs.parse_size.Tie as tie
 

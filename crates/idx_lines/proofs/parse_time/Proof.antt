@@ -1,8 +1,8 @@
 -- `idx_lines::parse_time` meets its contract: four fields in turn, and the sum. Assumes nothing.
 use borrow.Author.Needs.{needs}
 use Rattle.grammar.specs.IndexParts.{colon}
-use Rattle.idx_numbers.specs.Parts.{split}
-use Rattle.idx_lines.proofs.Clock.{clock-1, clock-2, clock-3, clock-4, clock-all, clock-over, clock-is}
+use Rattle.idx_numbers_model.specs.Parts.{split}
+use Rattle.idx_lines_model.proofs.Clock.{clock-1, clock-2, clock-3, clock-4, clock-all, clock-over, clock-is}
 use Rattle.idx_lines.proofs.parse_time.Statement.{statement}
 use Rattle.idx_lines.proofs.parse_time.Tie as tie
 

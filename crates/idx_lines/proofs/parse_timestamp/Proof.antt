@@ -1,6 +1,6 @@
 -- `idx_lines::parse_timestamp` meets its contract: by the parts that were found. Assumes nothing.
 use borrow.Author.Needs.{needs}
-use Rattle.idx_lines.proofs.Stamps.{stamp-no-time, stamp-no-position, stamp-bad-time, stamp-long-time, stamp-rest, long-place}
+use Rattle.idx_lines_model.proofs.Stamps.{stamp-no-time, stamp-no-position, stamp-bad-time, stamp-long-time, stamp-rest, long-place}
 use borrow.Author.Tests.{not-true, not-false}
 use mathlib.Core.List.{[]}
 use Rattle.idx_lines.proofs.parse_timestamp.Statement.{statement}

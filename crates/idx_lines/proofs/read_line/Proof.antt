@@ -1,7 +1,7 @@
 -- `idx_lines::read_line` meets its contract: by the word at its start. Assumes nothing.
 use borrow.Author.Needs.{needs}
 use Rattle.grammar.specs.Index.{size-word, palette-word, timestamp-word}
-use Rattle.idx_lines.proofs.Words.{word-in, line-timestamp, line-palette, line-size, line-other}
+use Rattle.idx_lines_model.proofs.Words.{word-in, line-timestamp, line-palette, line-size, line-other}
 use Rattle.idx_lines.proofs.read_line.Statement.{statement}
 use Rattle.idx_lines.proofs.read_line.Tie as tie
 

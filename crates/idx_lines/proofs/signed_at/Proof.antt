@@ -2,7 +2,7 @@
 use borrow.Author.Needs.{needs}
 use native.Mathlib.Omega.{arith}
 use mathlib.Core.Path.{refl}
-use Rattle.idx_lines.proofs.Fields.{minus-bad, minus-good, plus-bad, plus-good, below-bad, counted-most, counted-in}
+use Rattle.idx_lines_model.proofs.Fields.{minus-bad, minus-good, plus-bad, plus-good, below-bad, counted-most, counted-in}
 use Rattle.idx_lines.proofs.signed_at.Statement.{statement}
 use Rattle.idx_lines.proofs.signed_at.Tie as tie
 

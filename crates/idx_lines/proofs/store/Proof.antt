@@ -1,6 +1,6 @@
 -- `idx_lines::store` meets its contract: three stores. Assumes nothing.
 use borrow.Author.Needs.{needs}
-use Rattle.idx_lines.proofs.Palettes.{three-stores}
+use Rattle.idx_lines_model.proofs.Palettes.{three-stores}
 use Rattle.idx_lines.proofs.store.Statement.{statement}
 use Rattle.idx_lines.proofs.store.Tie as tie
 

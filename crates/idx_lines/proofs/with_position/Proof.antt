@@ -3,7 +3,7 @@ use borrow.Author.Needs.{needs}
 use mathlib.Core.Path.{refl}
 use mir.Syntax.{w64}
 use mir.Facts.{toZ-ofZ}
-use Rattle.idx_lines.proofs.Stamps.{beside-bad, beside-good}
+use Rattle.idx_lines_model.proofs.Stamps.{beside-bad, beside-good}
 use Rattle.idx_lines.proofs.with_position.Statement.{statement}
 use Rattle.idx_lines.proofs.with_position.Tie as tie
 

@@ -6,8 +6,8 @@ use borrow.Author.Tests.{not-true, not-false}
 use Prim.Native.Nat.{_≤_, _-_, _+_}
 use lib.ListN.{length, drop}
 use Rattle.grammar.specs.IndexParts.{blank}
-use Rattle.idx_numbers.specs.Parts.{front}
-use Rattle.idx_numbers.proofs.Turns.{lead-more, lead-stop, lead-end}
+use Rattle.idx_numbers_model.specs.Parts.{front}
+use Rattle.idx_numbers_model.proofs.Loops.{lead-more, lead-stop, lead-end}
 use Rattle.idx_numbers.proofs.blanks.Statement.{statement}
 use Rattle.idx_numbers.proofs.blanks.Tie as tie
 

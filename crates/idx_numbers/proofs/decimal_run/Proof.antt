@@ -6,8 +6,8 @@ use borrow.Author.Tests.{not-true, not-false}
 use Prim.Native.Nat.{_≤_, _-_, _+_, _*_}
 use lib.ListN.{length, drop, getD}
 use Rattle.grammar.specs.IndexNumbers.{digit}
-use Rattle.idx_numbers.specs.Answers.{runOf, runAfter}
-use Rattle.idx_numbers.proofs.Numbers.{run-stop, run-over, run-more, run-end, room-yes, room-no, ten-low, ten-high, digit-2}
+use Rattle.idx_numbers_model.specs.Answers.{runOf, runAfter}
+use Rattle.idx_numbers_model.proofs.Numbers.{run-stop, run-over, run-more, run-end, room-yes, room-no, ten-low, ten-high, digit-2}
 use Rattle.idx_numbers.proofs.decimal_run.Statement.{statement}
 use Rattle.idx_numbers.proofs.decimal_run.Tie as tie
 

@@ -1,5 +1,5 @@
 -- `idx_numbers::digit` meets its contract. Assumes nothing.
-use Rattle.idx_numbers.proofs.Numbers.{digit-1, digit-2, digit-3, digit-4, digit-5, digit-6, digit-7}
+use Rattle.idx_numbers_model.proofs.Numbers.{digit-1, digit-2, digit-3, digit-4, digit-5, digit-6, digit-7}
 use borrow.Author.Needs.{needs}
 use Rattle.idx_numbers.proofs.digit.Statement.{statement}
 use Rattle.idx_numbers.proofs.digit.Tie as tie

@@ -1,7 +1,7 @@
 -- `idx_numbers::eight_at` meets its contract: eight reads. Assumes nothing.
 use borrow.Author.Needs.{needs}
 use native.Mathlib.Omega.{arith}
-use Rattle.idx_numbers.proofs.Steps.{eight-is}
+use Rattle.idx_numbers_model.proofs.Steps.{eight-is}
 use Rattle.idx_numbers.proofs.eight_at.Statement.{statement}
 use Rattle.idx_numbers.proofs.eight_at.Tie as tie
 

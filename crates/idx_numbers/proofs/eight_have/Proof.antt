@@ -7,8 +7,8 @@ use mathlib.Core.Logic.{⊎-elim}
 use Prim.Native.Nat.{_≤_, _-_}
 use lib.ListN.{take, drop}
 use Rattle.grammar.specs.IndexParts.{unlike}
-use Rattle.idx_numbers.specs.Parts.{all}
-use Rattle.idx_numbers.proofs.Turns.{block-starts, block-hit-at, block-pass-at, block-full}
+use Rattle.idx_numbers_model.specs.Parts.{all}
+use Rattle.idx_numbers_model.proofs.Loops.{block-starts, block-hit-at, block-pass-at, block-full}
 use Rattle.idx_numbers.proofs.eight_have.Statement.{statement}
 use Rattle.idx_numbers.proofs.eight_have.Tie as tie
 

@@ -1,5 +1,5 @@
 -- `idx_numbers::fits` meets its contract: by the order of the two. Assumes nothing.
-use Rattle.idx_numbers.proofs.Numbers.{fit-less, fit-more, fit-equal}
+use Rattle.idx_numbers_model.proofs.Numbers.{fit-less, fit-more, fit-equal}
 use Rattle.idx_numbers.proofs.fits.Statement.{statement}
 use Rattle.idx_numbers.proofs.fits.Tie as tie
 

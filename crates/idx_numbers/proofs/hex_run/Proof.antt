@@ -5,8 +5,8 @@ use mathlib.Core.Path.{_≡_, refl}
 use Prim.Native.Nat.{_≤_, _-_, _+_, _*_}
 use lib.ListN.{length, drop}
 use Rattle.grammar.specs.IndexNumbers.{digit}
-use Rattle.idx_numbers.specs.Answers.{runOf, runAfter}
-use Rattle.idx_numbers.proofs.Numbers.{run-stop, run-over, run-more, run-end}
+use Rattle.idx_numbers_model.specs.Answers.{runOf, runAfter}
+use Rattle.idx_numbers_model.proofs.Numbers.{run-stop, run-over, run-more, run-end}
 use Rattle.idx_numbers.proofs.hex_run.Statement.{statement}
 use Rattle.idx_numbers.proofs.hex_run.Tie as tie
 

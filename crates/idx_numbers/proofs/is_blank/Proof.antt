@@ -1,5 +1,5 @@
 -- `idx_numbers::is_blank` meets its contract. Assumes nothing.
-use Rattle.idx_numbers.proofs.Turns.{blank-low, blank-mid, blank-high}
+use Rattle.idx_numbers_model.proofs.Loops.{blank-low, blank-mid, blank-high}
 use Rattle.idx_numbers.proofs.is_blank.Statement.{statement}
 use Rattle.idx_numbers.proofs.is_blank.Tie as tie
 

@@ -8,8 +8,8 @@ use Prim.Native.Nat.{_≤_, _-_}
 use lib.ListN.{length, take}
 use lib.Seq.{take-length}
 use Rattle.grammar.specs.IndexParts.{blank}
-use Rattle.idx_numbers.specs.Parts.{shorn}
-use Rattle.idx_numbers.proofs.Turns.{kept-more, kept-stop, kept-end}
+use Rattle.idx_numbers_model.specs.Parts.{shorn}
+use Rattle.idx_numbers_model.proofs.Loops.{kept-more, kept-stop, kept-end}
 use Rattle.idx_numbers.proofs.kept.Statement.{statement}
 use Rattle.idx_numbers.proofs.kept.Tie as tie
 

@@ -6,9 +6,9 @@ use native.Mathlib.Omega.{arith}
 use mathlib.Core.Path.{_≡_, sym}
 use Prim.Native.Nat.{_≤_, _-_, _+_}
 use lib.ListN.{length, drop}
-use Rattle.idx_numbers.specs.Answers.{test}
-use Rattle.idx_numbers.specs.Parts.{front}
-use Rattle.idx_numbers.proofs.Turns.{lead-more, lead-stop, lead-end}
+use Rattle.idx_numbers_model.specs.Answers.{test}
+use Rattle.idx_numbers_model.specs.Parts.{front}
+use Rattle.idx_numbers_model.proofs.Loops.{lead-more, lead-stop, lead-end}
 use Rattle.idx_numbers.proofs.leading.Statement.{statement}
 use Rattle.idx_numbers.proofs.leading.Tie as tie
 

@@ -2,7 +2,7 @@
 use borrow.Author.Needs.{needs}
 use mathlib.Core.Path.{_∙_, ap}
 use Prim.Native.Nat.{_+_, _*_}
-use Rattle.idx_numbers.specs.Numbers.{unsigned}
+use Rattle.idx_numbers_model.specs.Numbers.{unsigned}
 use Rattle.idx_numbers.proofs.parse_hex.Statement.{statement}
 use Rattle.idx_numbers.proofs.parse_hex.Tie as tie
 

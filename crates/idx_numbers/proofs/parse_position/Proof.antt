@@ -1,7 +1,7 @@
 -- `idx_numbers::parse_position` meets its contract: by whether there is a hexadecimal number. Assumes nothing.
 use borrow.Author.Needs.{needs}
 use native.Mathlib.Omega.{arith}
-use Rattle.idx_numbers.proofs.Numbers.{position-hex, position-dec}
+use Rattle.idx_numbers_model.proofs.Numbers.{position-hex, position-dec}
 use Rattle.idx_numbers.proofs.parse_position.Statement.{statement}
 use Rattle.idx_numbers.proofs.parse_position.Tie as tie
 

@@ -1,6 +1,6 @@
 -- `idx_numbers::passes` meets its contract: by the kind. Assumes nothing.
 use borrow.Author.Needs.{needs}
-use Rattle.idx_numbers.proofs.Turns.{parting-yes, parting-no, token-yes, token-no}
+use Rattle.idx_numbers_model.proofs.Loops.{parting-yes, parting-no, token-yes, token-no}
 use Rattle.idx_numbers.proofs.passes.Statement.{statement}
 use Rattle.idx_numbers.proofs.passes.Tie as tie
 

@@ -2,13 +2,13 @@
 use mathlib.Core.Path.{_≡_, refl}
 use Prim.Native.Nat.{_≤_, _-_}
 use lib.ListN.{length, drop}
-use Rattle.idx_numbers.proofs.Steps.{starts-end, starts-short, starts-differ, starts-more}
+use Rattle.idx_numbers_model.proofs.Steps.{starts-end, starts-short, starts-differ, starts-more}
 use native.Mathlib.Omega.{arith}
 use Rattle.idx_numbers.proofs.starts.Statement.{statement}
 use Rattle.idx_numbers.proofs.starts.Tie as tie
 
 abbrev Inv-loop : tie.InvT-loop
-Inv-loop s w i₀ i = (i ≤ length w) × (Rattle.idx_numbers.specs.Parts.starts w s ≡ Rattle.idx_numbers.specs.Parts.starts (drop i w) (drop i s))
+Inv-loop s w i₀ i = (i ≤ length w) × (Rattle.idx_numbers_model.specs.Parts.starts w s ≡ Rattle.idx_numbers_model.specs.Parts.starts (drop i w) (drop i s))
 
 abbrev μ-loop : tie.MeasureT-loop
 μ-loop s w i₀ i = length w - i

@@ -2,8 +2,8 @@
 use mathlib.Core.Path.{_≡_, refl}
 use Prim.Native.Nat.{_≤_, _-_}
 use lib.ListN.{length, drop}
-use Rattle.idx_numbers.specs.Numbers.{bare}
-use Rattle.idx_numbers.proofs.Numbers.{bare-more, bare-first, bare-second, bare-end}
+use Rattle.idx_numbers_model.specs.Numbers.{bare}
+use Rattle.idx_numbers_model.proofs.Numbers.{bare-more, bare-first, bare-second, bare-end}
 use native.Mathlib.Omega.{arith}
 use Rattle.idx_numbers.proofs.strip_0x.Statement.{statement}
 use Rattle.idx_numbers.proofs.strip_0x.Tie as tie

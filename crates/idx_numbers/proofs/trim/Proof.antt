@@ -1,5 +1,5 @@
 -- `idx_numbers::trim` meets its contract. Assumes nothing.
-use Rattle.idx_numbers.proofs.Turns.{lead-le, trim-ends, trim-long}
+use Rattle.idx_numbers_model.proofs.Loops.{lead-le, trim-ends, trim-long}
 use borrow.Author.Needs.{needs}
 use Rattle.idx_numbers.proofs.trim.Statement.{statement}
 use Rattle.idx_numbers.proofs.trim.Tie as tie

@@ -5,8 +5,8 @@ use mathlib.Core.Path.{_≡_}
 use Prim.Native.Nat.{_≤_, _-_, _+_}
 use lib.ListN.{length, drop}
 use Rattle.grammar.specs.IndexParts.{unlike}
-use Rattle.idx_numbers.specs.Parts.{front}
-use Rattle.idx_numbers.proofs.Turns.{skip-block, near-end, front-le}
+use Rattle.idx_numbers_model.specs.Parts.{front}
+use Rattle.idx_numbers_model.proofs.Loops.{skip-block, near-end, front-le}
 use Rattle.idx_numbers.proofs.until.Statement.{statement}
 use Rattle.idx_numbers.proofs.until.Tie as tie
 

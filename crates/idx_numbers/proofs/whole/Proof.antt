@@ -1,6 +1,6 @@
 -- `idx_numbers::whole` meets its contract: by what the run says. Assumes nothing.
 use borrow.Author.Needs.{needs}
-use Rattle.idx_numbers.proofs.Numbers.{whole-over, whole-none, whole-short, whole-good}
+use Rattle.idx_numbers_model.proofs.Numbers.{whole-over, whole-none, whole-short, whole-good}
 use Rattle.idx_numbers.proofs.whole.Statement.{statement}
 use Rattle.idx_numbers.proofs.whole.Tie as tie
 

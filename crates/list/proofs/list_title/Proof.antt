@@ -1,6 +1,6 @@
 -- `list::list_title` is safe and ends: each part that is lent is within its array. Assumes nothing.
 use mathlib.Core.Path.{refl}
-use Rattle.listing.proofs.Laws.{written-within, written-part}
+use Rattle.listing_model.proofs.Laws.{written-within, written-part}
 use borrow.Author.Needs.{needs}
 use Rattle.list.proofs.list_title.Statement.{statement}
 use Rattle.list.proofs.list_title.Tie as tie

@@ -3,7 +3,7 @@ use Prim.Native.Nat.{_≤_, _-_}
 use native.Mathlib.Omega.{arith}
 use mathlib.Core.Path.{_≡_}
 use lib.ListN.{length}
-use Rattle.listing.proofs.Laws.{written-long, written-within, written-part}
+use Rattle.listing_model.proofs.Laws.{written-long, written-within, written-part}
 use borrow.Author.Needs.{needs}
 use Rattle.list.proofs.write_cues.Statement.{statement}
 use Rattle.list.proofs.write_cues.Tie as tie

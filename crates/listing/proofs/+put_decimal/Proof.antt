@@ -1,7 +1,7 @@
 -- `listing::put_decimal` meets its contract: the last digit after those before it. Assumes nothing.
 use native.Mathlib.Omega.{arith}
 use mathlib.Core.Path.{sym}
-use Rattle.listing.proofs.Laws.{decimal-one, decimal-more, length-one, length-more, put-one, put-put, put-as, put-tight}
+use Rattle.listing_model.proofs.Laws.{decimal-one, decimal-more, length-one, length-more, put-one, put-put, put-as, put-tight}
 use Prim.Native.Nat.{ℕ, _<_}
 use borrow.Fn.Kinds.{In}
 use borrow.Fn.PlainCycle.{Measures, is, falls, and}

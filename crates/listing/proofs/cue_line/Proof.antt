@@ -6,8 +6,8 @@ use Prim.Native.Nat.{min}
 use lib.IntN.{pos}
 use mir.Syntax.{w64}
 use mir.Facts.{toZ-ofZ}
-use Rattle.listing.proofs.Table.{line-none, line-last, line-next, form-none, form-some}
-use Rattle.listing.proofs.Claim.{listed-line}
+use Rattle.listing_model.proofs.Table.{line-none, line-last, line-next, form-none, form-some}
+use Rattle.listing_model.proofs.Claim.{listed-line}
 use Rattle.listing.proofs.cue_line.Statement.{statement}
 use Rattle.listing.proofs.cue_line.Tie as tie
 

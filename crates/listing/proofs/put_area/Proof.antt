@@ -1,6 +1,6 @@
 -- `listing::put_area` meets its contract: four fields. Assumes nothing.
 use borrow.Author.Needs.{needs}
-use Rattle.listing.proofs.Laws.{put-put}
+use Rattle.listing_model.proofs.Laws.{put-put}
 use Rattle.listing.proofs.put_area.Statement.{statement}
 use Rattle.listing.proofs.put_area.Tie as tie
 

@@ -5,9 +5,9 @@ use mathlib.Core.Path.{_≡_}
 use native.Mathlib.Omega.{arith}
 use mir.Syntax.{w64}
 use mir.Facts.{toZ-ofZ}
-use Rattle.ps.proofs.Unit.{named}
-use Rattle.listing.proofs.Units.{found-line, none-line, scratch-kept}
-use Rattle.listing.specs.Answers.{durationIs}
+use Rattle.ps_model.proofs.Unit.{named}
+use Rattle.listing_model.proofs.Units.{found-line, none-line, scratch-kept}
+use Rattle.listing_model.specs.Answers.{durationIs}
 use Rattle.listing.proofs.put_cue.Statement.{statement}
 use Rattle.listing.proofs.put_cue.Tie as tie
 

@@ -1,6 +1,6 @@
 -- `listing::put_delays` meets its contract: three fields and the end of the line. Assumes nothing.
 use borrow.Author.Needs.{needs}
-use Rattle.listing.proofs.Laws.{put-put}
+use Rattle.listing_model.proofs.Laws.{put-put}
 use Rattle.listing.proofs.put_delays.Statement.{statement}
 use Rattle.listing.proofs.put_delays.Tie as tie
 

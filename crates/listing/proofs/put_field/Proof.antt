@@ -1,6 +1,6 @@
 -- `listing::put_field` meets its contract: a space and the number. Assumes nothing.
 use borrow.Author.Needs.{needs}
-use Rattle.listing.proofs.Laws.{put-cons}
+use Rattle.listing_model.proofs.Laws.{put-cons}
 use Rattle.listing.proofs.put_field.Statement.{statement}
 use Rattle.listing.proofs.put_field.Tie as tie
 

@@ -2,8 +2,8 @@
 use borrow.Author.Needs.{needs}
 use mir.Syntax.{w64}
 use mir.Facts.{toZ-ofZ}
-use Rattle.listing.proofs.Units.{part-line}
-use Rattle.listing.specs.Answers.{durationIs}
+use Rattle.listing_model.proofs.Units.{part-line}
+use Rattle.listing_model.specs.Answers.{durationIs}
 use Rattle.listing.proofs.put_found.Statement.{statement}
 use Rattle.listing.proofs.put_found.Tie as tie
 

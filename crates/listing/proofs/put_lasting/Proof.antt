@@ -2,10 +2,10 @@
 use borrow.Author.Needs.{needs}
 use native.Mathlib.Omega.{arith}
 use mathlib.Core.Path.{sym, ap}
-use Rattle.listing.specs.Lines.{field, lasting}
-use Rattle.listing.specs.Answers.{durationIs}
+use Rattle.listing_model.specs.Lines.{field, lasting}
+use Rattle.listing_model.specs.Answers.{durationIs}
 use mathlib.Core.Bool.{Bool}
-use Rattle.listing.proofs.Laws.{put-as, put-in, put-two}
+use Rattle.listing_model.proofs.Laws.{put-as, put-in, put-two}
 use Rattle.listing.proofs.put_lasting.Statement.{statement}
 use Rattle.listing.proofs.put_lasting.Tie as tie
 

@@ -1,6 +1,6 @@
 -- `listing::put_number` meets its contract: 64 bits take at most 20 digits. Assumes nothing.
 use native.Mathlib.Omega.{arith}
-use Rattle.listing.proofs.Laws.{number-short, put-in}
+use Rattle.listing_model.proofs.Laws.{number-short, put-in}
 use Rattle.listing.proofs.put_number.Statement.{statement}
 use Rattle.listing.proofs.put_number.Tie as tie
 

@@ -1,8 +1,8 @@
 -- `listing::put_refused` meets its contract: number, `refused`, number. Assumes nothing.
 use borrow.Author.Needs.{needs}
 use native.Mathlib.Omega.{arith}
-use Rattle.listing.proofs.Laws.{put-put, put-in}
-use Rattle.listing.specs.Lines.{refusedLine}
+use Rattle.listing_model.proofs.Laws.{put-put, put-in}
+use Rattle.listing_model.specs.Lines.{refusedLine}
 use Rattle.listing.proofs.put_refused.Statement.{statement}
 use Rattle.listing.proofs.put_refused.Tie as tie
 

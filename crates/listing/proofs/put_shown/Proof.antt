@@ -1,13 +1,13 @@
 -- `listing::put_shown` meets its contract: times, area and delays. Assumes nothing.
 use borrow.Author.Needs.{needs}
-use Rattle.listing.proofs.Laws.{put-put, put-as}
-use Rattle.listing.specs.Lines.{shownLine}
+use Rattle.listing_model.proofs.Laws.{put-put, put-as}
+use Rattle.listing_model.specs.Lines.{shownLine}
 use mathlib.Core.Path.{ap}
 use mir.Syntax.{w64}
 use mir.Facts.{toZ-ofZ}
 use lib.IntN.{ℤ}
-use Rattle.listing.specs.Lines.{times}
-use Rattle.listing.specs.Answers.{durationIs}
+use Rattle.listing_model.specs.Lines.{times}
+use Rattle.listing_model.specs.Answers.{durationIs}
 use Rattle.listing.proofs.put_shown.Statement.{statement}
 use Rattle.listing.proofs.put_shown.Tie as tie
 

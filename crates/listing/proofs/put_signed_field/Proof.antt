@@ -1,11 +1,11 @@
 -- `listing::put_signed_field` meets its contract: a space and the number. Assumes nothing.
 use borrow.Author.Needs.{needs}
-use Rattle.listing.proofs.Laws.{put-cons, put-as}
+use Rattle.listing_model.proofs.Laws.{put-cons, put-as}
 use mathlib.Core.Path.{ap}
 use mir.Syntax.{w64}
 use mir.Facts.{toZ-ofZ}
 use lib.IntN.{ℤ}
-use Rattle.listing.specs.Lines.{field, signed}
+use Rattle.listing_model.specs.Lines.{field, signed}
 use Rattle.listing.proofs.put_signed_field.Statement.{statement}
 use Rattle.listing.proofs.put_signed_field.Tie as tie
 

@@ -1,11 +1,11 @@
 -- `listing::put_times` meets its contract: three fields. Assumes nothing.
 use borrow.Author.Needs.{needs}
-use Rattle.listing.proofs.Laws.{put-put, put-as}
+use Rattle.listing_model.proofs.Laws.{put-put, put-as}
 use mathlib.Core.Path.{ap}
 use mir.Syntax.{w64}
 use mir.Facts.{toZ-ofZ}
 use lib.IntN.{ℤ}
-use Rattle.listing.specs.Lines.{field, signed}
+use Rattle.listing_model.specs.Lines.{field, signed}
 use Rattle.listing.proofs.put_times.Statement.{statement}
 use Rattle.listing.proofs.put_times.Tie as tie
 

@@ -3,8 +3,8 @@ use native.Mathlib.Omega.{arith}
 use Prim.Native.Nat.{_-_}
 use mathlib.Core.Path.{refl}
 use lib.ListN.{length}
-use Rattle.outcome.proofs.Laws.{Copying, copying-starts, copying-goes, copying-ends}
-use Rattle.listing.proofs.Laws.{put-copied}
+use Rattle.outcome.proofs.Laws.{Copying, copying-starts, copying-goes}
+use Rattle.listing_model.proofs.Laws.{put-copied}
 use Rattle.listing.proofs.put_word.Statement.{statement}
 use Rattle.listing.proofs.put_word.Tie as tie
 

@@ -1,6 +1,6 @@
 -- `listing::title_line` meets its contract: the file's line, the index's or the cues'. Assumes nothing.
 use borrow.Author.Needs.{needs}
-use Rattle.listing.proofs.Table.{head-none, head-refused, head-counted, not-there, long-text, long-file, can-read}
+use Rattle.listing_model.proofs.Table.{head-none, head-refused, head-counted, not-there, long-text, long-file, can-read}
 use Rattle.listing.proofs.title_line.Statement.{statement}
 use Rattle.listing.proofs.title_line.Tie as tie
 

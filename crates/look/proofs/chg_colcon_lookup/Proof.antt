@@ -7,9 +7,9 @@ use mathlib.Core.List.{List}
 use borrow.Author.Needs.{needs}
 use denote.Ref.{now}
 use lib.ListN.{length, drop}
-use Rattle.look.specs.Look.{told, looking, lookWords}
-use Rattle.look.specs.declared.LookAnswer.{LookAnswer}
-use Rattle.look.proofs.Look.{bands-more, bands-end}
+use Rattle.bands_model.specs.Look.{told, looking, lookWords}
+use Rattle.bands_model.specs.declared.LookAnswer.{LookAnswer}
+use Rattle.bands_model.proofs.Look.{bands-more, bands-end}
 use Rattle.look.proofs.chg_colcon_lookup.Statement.{statement}
 use Rattle.look.proofs.chg_colcon_lookup.Tie as tie
 

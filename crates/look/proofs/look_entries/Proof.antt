@@ -5,9 +5,9 @@ use mathlib.Core.Path.{_≡_, refl, _∙_}
 use mathlib.Core.List.{List}
 use borrow.Author.Needs.{needs}
 use lib.ListN.{length, drop}
-use Rattle.look.specs.Look.{told, entriesLook}
-use Rattle.look.specs.declared.LookAnswer.{LookAnswer}
-use Rattle.look.proofs.Look.{entries-more, entries-end}
+use Rattle.bands_model.specs.Look.{told, entriesLook}
+use Rattle.bands_model.specs.declared.LookAnswer.{LookAnswer}
+use Rattle.bands_model.proofs.Look.{entries-more, entries-end}
 use Rattle.look.proofs.look_entries.Statement.{statement}
 use Rattle.look.proofs.look_entries.Tie as tie
 

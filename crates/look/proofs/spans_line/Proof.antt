@@ -5,8 +5,8 @@ use mathlib.Core.Path.{_≡_, refl, sym, _∙_}
 use mathlib.Core.List.{List}
 use denote.Ref.{now}
 use lib.ListN.{length, drop}
-use Rattle.look.specs.Look.{spanning, spansLine}
-use Rattle.look.proofs.Look.{line-found, line-more, line-end}
+use Rattle.bands_model.specs.Look.{spanning, spansLine}
+use Rattle.bands_model.proofs.Look.{line-found, line-more, line-end}
 use borrow.Author.Needs.{needs}
 use Rattle.look.proofs.spans_line.Statement.{statement}
 use Rattle.look.proofs.spans_line.Tie as tie

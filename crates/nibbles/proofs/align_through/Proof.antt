@@ -42,7 +42,7 @@ use denote.Triple.Table.{entered, cited}
 use denote.Triple.Walked.{says, Stays, stay-none, stay-none-slice, walkOf, goes-none, goes-none-slice, Walks, ends-at, walked, walk-meets}
 use denote.Triple.Clauses.{ensured, lasts}
 use denote.Exit.{yes}
-use Rattle.nibbles.specs.Nibbles.{onByte}
+use Rattle.rle_model.specs.Nibbles.{onByte}
 use Rattle.nibbles.specs.declared.NibbleReader.{NibbleReader}
 use Rattle.nibbles.proofs.Lent.{α, B, Rest, below, above, lies, makes-reader}
 use Rattle.nibbles.proofs.Lent as lent

@@ -4,8 +4,8 @@ use native.Mathlib.Omega.{arith}
 use Prim.Native.Nat.{_/_}
 use mathlib.Core.Path.{ap}
 use denote.Ref.{now}
-use Rattle.nibbles.specs.declared.Nibble.the-variants.{Is}
-use Rattle.nibbles.proofs.Laws.{inside, outside, nibble-high, nibble-low}
+use Rattle.rle_model.specs.declared.Nibble.the-variants.{Is}
+use Rattle.rle_model.proofs.Nibbles.{inside, outside, nibble-high, nibble-low}
 use Rattle.nibbles.proofs.nibble_at.Statement.{statement}
 use Rattle.nibbles.proofs.nibble_at.Tie as tie
 

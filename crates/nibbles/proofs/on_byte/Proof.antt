@@ -1,7 +1,7 @@
 -- `nibbles::on_byte` meets its contract. Assumes nothing.
 use borrow.Author.Needs.{needs}
 use Rattle.grammar.specs.Rows.{align}
-use Rattle.nibbles.proofs.Laws.{inside, outside}
+use Rattle.rle_model.proofs.Nibbles.{inside, outside}
 use Rattle.nibbles.proofs.on_byte.Statement.{statement}
 use Rattle.nibbles.proofs.on_byte.Tie as tie
 

@@ -1,6 +1,6 @@
 -- `nibbles::past_nibble` meets its contract. Assumes nothing.
 use borrow.Author.Needs.{needs}
-use Rattle.nibbles.proofs.Laws.{inside, outside}
+use Rattle.rle_model.proofs.Nibbles.{inside, outside}
 use Rattle.nibbles.proofs.past_nibble.Statement.{statement}
 use Rattle.nibbles.proofs.past_nibble.Tie as tie
 

@@ -43,13 +43,13 @@ use denote.Triple.Table.{entered, cited}
 use denote.Triple.Walked.{says, Stays, stay-none, stay-none-slice, walkOf, goes-none, goes-none-slice, Walks, ends-at, walked, walk-meets}
 use denote.Triple.Clauses.{ensured, lasts}
 use denote.Exit.{yes}
-use Rattle.nibbles.specs.Nibbles.{nibbleAt, nibbleAnswer, pastNibble}
+use Rattle.rle_model.specs.Nibbles.{nibbleAt, nibbleAnswer, pastNibble}
 use Rattle.nibbles.specs.declared.NibbleReader.{NibbleReader}
-use Rattle.nibbles.specs.declared.Nibble.{Nibble}
+use Rattle.rle_model.specs.declared.Nibble.{Nibble}
 use Rattle.nibbles.proofs.Lent.{B, Rest, below, above, lies, lay, makes-reader}
 use Rattle.nibbles.proofs.Lent as lent
-use Rattle.nibbles.proofs.Nibble as S
-use Rattle.nibbles.proofs.Nibble.Laws as S′
+use Rattle.rle_model.proofs.Nibble as S
+use Rattle.rle_model.proofs.Nibble.Laws as S′
 use Rattle.nibbles.proofs.NibbleReader as T
 use Rattle.nibbles.proofs.NibbleReader.Laws as T′
 use Rattle.nibbles.proofs.NibbleReader.new as new

@@ -2,8 +2,8 @@
 use borrow.Author.Needs.{needs}
 use native.Mathlib.Omega.{arith}
 use mathlib.Core.Path.{_∙_, refl}
-use Rattle.packets.proofs.Laws.{leading-le}
-use Rattle.packets.proofs.Body.{body-none, body-cut, body-past, body-at, body-older}
+use Rattle.ps_model.proofs.PacketGrammar.{leading-le}
+use Rattle.ps_model.proofs.Body.{body-none, body-cut, body-past, body-at, body-older}
 use Rattle.packets.proofs.body_start.Statement.{statement}
 use Rattle.packets.proofs.body_start.Tie as tie
 

@@ -1,7 +1,7 @@
 -- `packets::older_body` meets its contract: a byte before each test. Assumes nothing.
 use borrow.Author.Needs.{needs}
 use native.Mathlib.Omega.{arith}
-use Rattle.packets.proofs.Body.{older-none, older-cut, older-past, older-at, ap-plus}
+use Rattle.ps_model.proofs.Body.{older-none, older-cut, older-past, older-at, ap-plus}
 use Rattle.packets.proofs.older_body.Statement.{statement}
 use Rattle.packets.proofs.older_body.Tie as tie
 

@@ -1,7 +1,7 @@
 -- `packets::pack` meets its contract: by the form of the header. Assumes nothing.
 use native.Mathlib.Omega.{arith}
 use mathlib.Core.Path.{_∙_, refl}
-use Rattle.packets.proofs.Read.{pack-cut, pack-newer, pack-older, pack-none}
+use Rattle.ps_model.proofs.Read.{pack-cut, pack-newer, pack-older, pack-none}
 use Rattle.packets.proofs.pack.Statement.{statement}
 use Rattle.packets.proofs.pack.Tie as tie
 

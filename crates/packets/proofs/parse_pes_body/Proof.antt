@@ -2,7 +2,7 @@
 use borrow.Author.Needs.{needs}
 use native.Mathlib.Omega.{arith}
 use mathlib.Core.Path.{sym, _∙_}
-use Rattle.packets.proofs.Body.{rest-at, rest-none}
+use Rattle.ps_model.proofs.Body.{rest-at, rest-none}
 use Rattle.packets.proofs.parse_pes_body.Statement.{statement}
 use Rattle.packets.proofs.parse_pes_body.Tie as tie
 

@@ -1,6 +1,6 @@
 -- `packets::passing` meets its contract: by whether the packet is whole. Assumes nothing.
 use native.Mathlib.Omega.{arith}
-use Rattle.packets.proofs.Read.{whole-yes, whole-no}
+use Rattle.ps_model.proofs.Read.{whole-yes, whole-no}
 use Rattle.packets.proofs.passing.Statement.{statement}
 use Rattle.packets.proofs.passing.Tie as tie
 

@@ -4,7 +4,7 @@ use native.Mathlib.Omega.{arith}
 use mathlib.Core.Path.{sym, _∙_}
 use Prim.Native.Nat.{_+_}
 use Rattle.outcome.proofs.Laws.{part-slice, not-true, not-false}
-use Rattle.packets.proofs.Read.{private-cut, private-none, private-fits, private-empty, private-other, private-keeps}
+use Rattle.ps_model.proofs.Read.{private-cut, private-none, private-fits, private-empty, private-other, private-keeps}
 use Rattle.packets.proofs.private_stream.Statement.{statement}
 use Rattle.packets.proofs.private_stream.Tie as tie
 

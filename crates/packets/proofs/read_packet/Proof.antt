@@ -3,8 +3,8 @@ use borrow.Author.Needs.{needs}
 use native.Mathlib.Omega.{arith}
 use mathlib.Core.Path.{_∙_}
 use Prim.Native.Nat.{_+_}
-use Rattle.packets.proofs.Laws.{word-at}
-use Rattle.packets.proofs.Read.{packet-short, packet-unprefixed, packet-pack, packet-private, packet-ending, packet-other}
+use Rattle.ps_model.proofs.PacketGrammar.{word-at}
+use Rattle.ps_model.proofs.Read.{packet-short, packet-unprefixed, packet-pack, packet-private, packet-ending, packet-other}
 use Rattle.packets.proofs.read_packet.Statement.{statement}
 use Rattle.packets.proofs.read_packet.Tie as tie
 

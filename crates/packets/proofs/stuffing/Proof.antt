@@ -2,7 +2,7 @@
 use borrow.Author.Needs.{needs}
 use native.Mathlib.Omega.{arith}
 use Prim.Native.Nat.{_-_}
-use Rattle.packets.proofs.Body.{Stuffed, stuffed-starts, stuffed-past, stuffed-other, stuffed-full, stuffed-more}
+use Rattle.ps_model.proofs.Body.{Stuffed, stuffed-starts, stuffed-past, stuffed-other, stuffed-full, stuffed-more}
 use Rattle.packets.proofs.stuffing.Statement.{statement}
 use Rattle.packets.proofs.stuffing.Tie as tie
 

@@ -3,8 +3,8 @@ use borrow.Author.Needs.{needs}
 use native.Mathlib.Omega.{arith}
 use mathlib.Core.Path.{_∙_, refl}
 use Prim.Native.Nat.{_+_}
-use Rattle.packets.proofs.Laws.{word-at}
-use Rattle.ps.proofs.Unit.{bare-few, bare-small, bare-long, bare-yes}
+use Rattle.ps_model.proofs.PacketGrammar.{word-at}
+use Rattle.ps_model.proofs.Unit.{bare-few, bare-small, bare-long, bare-yes}
 use Rattle.ps.proofs.bare_size.Statement.{statement}
 use Rattle.ps.proofs.bare_size.Tie as tie
 

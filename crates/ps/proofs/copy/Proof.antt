@@ -4,7 +4,7 @@ use mathlib.Core.Path.{ap}
 use Prim.Native.Nat.{ℕ, _+_, _-_}
 use lib.ListN.{take, drop, set}
 use Rattle.outcome.proofs.Laws.{Copying, copying-starts, copying-goes, copying-ends}
-use Rattle.ps.proofs.Join.{part-length, part-byte}
+use Rattle.ps_model.proofs.Loops.{part-length, part-byte}
 use Rattle.ps.proofs.copy.Statement.{statement}
 use Rattle.ps.proofs.copy.Tie as tie
 

@@ -1,7 +1,7 @@
 -- `ps::extract_spu` meets its contract: past the file, bare, or joined. Assumes nothing.
 use borrow.Author.Needs.{needs}
 use native.Mathlib.Omega.{arith}
-use Rattle.ps.proofs.Unit.{unit-past, unit-bare, unit-joined}
+use Rattle.ps_model.proofs.Unit.{unit-past, unit-bare, unit-joined}
 use Rattle.ps.proofs.extract_spu.Statement.{statement}
 use Rattle.ps.proofs.extract_spu.Tie as tie
 

@@ -1,7 +1,7 @@
 -- `ps::extract_spu_from_ps` meets its contract: measured, and joined where scratch is long enough. Assumes nothing.
 use borrow.Author.Needs.{needs}
 use mathlib.Core.Path.{sym, _∙_}
-use Rattle.ps.proofs.Unit.{holds-list, joined-refused, joined-short, joined-fits}
+use Rattle.ps_model.proofs.Unit.{holds-list, joined-refused, joined-short, joined-fits}
 use Rattle.ps.proofs.extract_spu_from_ps.Statement.{statement}
 use Rattle.ps.proofs.extract_spu_from_ps.Tie as tie
 

@@ -8,9 +8,9 @@ use lib.ListN.{length}
 use Rattle.outcome.specs.Outcome.{ok}
 use Rattle.outcome.proofs.Laws.{ok-injective}
 use Rattle.grammar.specs.Packets.{Packet, packets, unitOf, joined, subpicture}
-use Rattle.ps.specs.Packets.{packetsAt}
-use Rattle.packets.proofs.Read.{keeps-told, passes-told, refused-told}
-use Rattle.ps.proofs.Join.{Joining, joining-starts, joining-ends, joining-refused, joining-passes, joining-goes, unit-within}
+use Rattle.ps_model.specs.Packets.{packetsAt}
+use Rattle.ps_model.proofs.Read.{keeps-told, passes-told, refused-told}
+use Rattle.ps_model.proofs.Loops.{Joining, joining-starts, joining-ends, joining-refused, joining-passes, joining-goes, unit-within}
 use Rattle.ps.proofs.join_packets.Statement.{statement}
 use Rattle.ps.proofs.join_packets.Tie as tie
 

@@ -1,6 +1,6 @@
 -- `ps::joined_byte` meets its contract: by where the byte stands. Assumes nothing.
 use native.Mathlib.Omega.{arith}
-use Rattle.ps.proofs.Join.{byte-old, byte-past, byte-new}
+use Rattle.ps_model.proofs.Loops.{byte-old, byte-past, byte-new}
 use Rattle.ps.proofs.joined_byte.Statement.{statement}
 use Rattle.ps.proofs.joined_byte.Tie as tie
 

@@ -5,10 +5,10 @@ use mathlib.Core.List.{[]}
 use Prim.Native.Nat.{_-_}
 use lib.ListN.{length}
 use Rattle.grammar.specs.Packets.{subpicture}
-use Rattle.ps.specs.Packets.{packetsAt}
-use Rattle.ps.specs.Answers.{joinedGiven}
-use Rattle.packets.proofs.Read.{keeps-told, passes-told, refused-told}
-use Rattle.ps.proofs.Join.{Measuring, measuring-starts, measuring-refused, measuring-passes, measuring-done, measuring-few, measuring-more}
+use Rattle.ps_model.specs.Packets.{packetsAt}
+use Rattle.ps_model.specs.Answers.{joinedGiven}
+use Rattle.ps_model.proofs.Read.{keeps-told, passes-told, refused-told}
+use Rattle.ps_model.proofs.Loops.{Measuring, measuring-starts, measuring-refused, measuring-passes, measuring-done, measuring-few, measuring-more}
 use Rattle.ps.proofs.measure_packets.Statement.{statement}
 use Rattle.ps.proofs.measure_packets.Tie as tie
 

@@ -3,7 +3,7 @@ use borrow.Author.Needs.{needs}
 use native.Mathlib.Omega.{arith}
 use mathlib.Core.Path.{_≡_}
 use Prim.Native.Nat.{_+_, _-_}
-use Rattle.ps.proofs.Unit.{part-past, part-rest}
+use Rattle.ps_model.proofs.Unit.{part-past, part-rest}
 use Rattle.ps.proofs.part.Statement.{statement}
 use Rattle.ps.proofs.part.Tie as tie
 

@@ -1,7 +1,7 @@
 -- `ps::unit_part` meets its contract: by which slice holds it. Assumes nothing.
 use borrow.Author.Needs.{needs}
 use mathlib.Core.Path.{sym, ap, _∙_}
-use Rattle.ps.specs.Answers.{unitPart}
+use Rattle.ps_model.specs.Answers.{unitPart}
 use Rattle.ps.proofs.unit_part.Statement.{statement}
 use Rattle.ps.proofs.unit_part.Tie as tie
 

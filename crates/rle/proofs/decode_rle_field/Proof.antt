@@ -2,7 +2,7 @@
 use mathlib.Core.Path.{sym, _∙_}
 use borrow.Author.Tests.{leb-true}
 use borrow.Author.Needs.{needs}
-use Rattle.rle.proofs.Turns.{decoded-short}
+use Rattle.rle_model.proofs.Loops.{decoded-short}
 use Rattle.rle.proofs.decode_rle_field.Statement.{statement}
 use Rattle.rle.proofs.decode_rle_field.Tie as tie
 

@@ -1,7 +1,7 @@
 -- `rle::decode_rows` meets its contract: no row at all, or the rows from the first one's place on. Assumes nothing.
 use native.Mathlib.Omega.{arith}
 use borrow.Author.Needs.{needs}
-use Rattle.rle.proofs.Turns.{rows-some, start-fits, width-fits, rows-fit, decoded-none, decoded-rows}
+use Rattle.rle_model.proofs.Loops.{rows-some, start-fits, width-fits, rows-fit, decoded-none, decoded-rows}
 use Rattle.rle.proofs.decode_rows.Statement.{statement}
 use Rattle.rle.proofs.decode_rows.Tie as tie
 

@@ -1,8 +1,8 @@
 -- `rle::decode_through` meets its contract: rows that were measured are painted, or a refusal before any store. Assumes nothing.
 use mathlib.Core.Path.{sym, _∙_}
 use borrow.Author.Needs.{needs}
-use Rattle.rle.proofs.Turns.{unfielded, refused-kept}
-use Rattle.rle.proofs.Kept.{ready}
+use Rattle.rle_model.proofs.Loops.{unfielded, refused-kept}
+use Rattle.rle_model.proofs.Kept.{ready}
 use Rattle.rle.proofs.decode_through.Statement.{statement}
 use Rattle.rle.proofs.decode_through.Tie as tie
 

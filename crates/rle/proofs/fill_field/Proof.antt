@@ -7,10 +7,10 @@ use borrow.Author.Needs.{needs}
 use denote.Ref.{now}
 use lib.ListN.{length}
 use Rattle.outcome.specs.Outcome.{IsOk, listed}
-use Rattle.codes.specs.Codes.{fieldAt}
-use Rattle.nibbles.proofs.Laws.{on-byte}
-use Rattle.rle.specs.Field.{paintField}
-use Rattle.rle.proofs.Turns.{mul-pred, row-there, row-goes-inside, field-there, field-paint, field-paint-end, blank-kept}
+use Rattle.rle_model.specs.Codes.{fieldAt}
+use Rattle.rle_model.proofs.Nibbles.{on-byte}
+use Rattle.rle_model.specs.Field.{paintField}
+use Rattle.rle_model.proofs.Loops.{mul-pred, row-there, row-goes-inside, field-there, field-paint, field-paint-end, blank-kept}
 use Rattle.rle.proofs.fill_field.Statement.{statement}
 use Rattle.rle.proofs.fill_field.Tie as tie
 

@@ -6,8 +6,8 @@ use mathlib.Core.List.{List}
 use borrow.Author.Needs.{needs}
 use denote.Ref.{now}
 use lib.ListN.{length, take, drop, getD}
-use Rattle.rle.specs.Kept.{paintKept, KeptFits}
-use Rattle.rle.proofs.Kept.{fits-now, fits-more, paints-more, paints-end}
+use Rattle.rle_model.specs.Kept.{paintKept, KeptFits}
+use Rattle.rle_model.proofs.Kept.{fits-now, fits-more, paints-more, paints-end}
 use Rattle.rle.proofs.fill_kept.Statement.{statement}
 use Rattle.rle.proofs.fill_kept.Tie as tie
 

@@ -1,6 +1,6 @@
 -- `rle::fill_measured` meets its contract: rows painted from what was kept, or rows read again. Assumes nothing.
 use borrow.Author.Needs.{needs}
-use Rattle.rle.proofs.Kept.{kept-room, kept-pixels}
+use Rattle.rle_model.proofs.Kept.{kept-room, kept-pixels}
 use Rattle.rle.proofs.fill_measured.Statement.{statement}
 use Rattle.rle.proofs.fill_measured.Tie as tie
 

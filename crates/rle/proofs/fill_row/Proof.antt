@@ -10,11 +10,11 @@ use lib.ListN.{length}
 use lib.Seq.{sets}
 use Rattle.grammar.specs.Rows.{code, afterCodes}
 use Rattle.grammar.specs.Pixels.{rowPixels}
-use Rattle.codes.specs.Codes.{rowAt}
+use Rattle.rle_model.specs.Codes.{rowAt}
 use Rattle.grammar.proofs.Lengths.{paints-le}
-use Rattle.codes.proofs.Laws.{paints-pos}
-use Rattle.codes.proofs.Turns.{Coded, coded, uncoded}
-use Rattle.rle.proofs.Turns.{row-short, ok-more, after-more, paint-more, paint-end, after-end}
+use Rattle.rle_model.proofs.Grammar.{paints-pos}
+use Rattle.rle_model.proofs.CodeLoops.{Coded, coded, uncoded}
+use Rattle.rle_model.proofs.Loops.{row-short, ok-more, after-more, paint-more, paint-end, after-end}
 use Rattle.rle.proofs.fill_row.Statement.{statement}
 use Rattle.rle.proofs.fill_row.Tie as tie
 

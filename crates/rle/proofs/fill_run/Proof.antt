@@ -6,7 +6,7 @@ use native.Mathlib.Omega.{arith}
 use lib.ListN.{length, replicate, length-set}
 use lib.Seq.{sets}
 use native.Mathlib.Nat.{add-zero, sub-zero}
-use Rattle.rle.proofs.Turns.{run-more}
+use Rattle.rle_model.proofs.Loops.{run-more}
 use Rattle.rle.proofs.fill_run.Statement.{statement}
 use Rattle.rle.proofs.fill_run.Tie as tie
 

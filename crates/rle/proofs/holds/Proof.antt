@@ -1,7 +1,7 @@
 -- `rle::holds` meets its contract: a quotient in place of the product. Assumes nothing.
 use borrow.Author.Needs.{needs}
 use native.Mathlib.Omega.{arith}
-use Rattle.rle.proofs.Turns.{holds-blank, holds-wide}
+use Rattle.rle_model.proofs.Loops.{holds-blank, holds-wide}
 use Rattle.rle.proofs.holds.Statement.{statement}
 use Rattle.rle.proofs.holds.Tie as tie
 

@@ -1,5 +1,5 @@
 -- `rle::left_after` meets its contract. Assumes nothing.
-use Rattle.rle.proofs.Kept.{left-end, left-on}
+use Rattle.rle_model.proofs.Kept.{left-end, left-on}
 use Rattle.rle.proofs.left_after.Statement.{statement}
 use Rattle.rle.proofs.left_after.Tie as tie
 

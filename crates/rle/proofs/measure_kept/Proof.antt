@@ -9,12 +9,12 @@ use lib.ListN.{length}
 use lib.Seq.{sets}
 use Rattle.outcome.specs.Outcome.{Res}
 use Rattle.grammar.specs.Rows.{Code}
-use Rattle.codes.specs.Codes.{fieldAt, fieldRead}
-use Rattle.rle.specs.Kept.{keptAll}
-use Rattle.rle.specs.Answers.{AtMost, fieldAnswer, plusField, measured}
-use Rattle.rle.specs.declared.Counts.{Counts}
-use Rattle.rle.proofs.Turns.{Rowed, rowed, row-aligned, unrowed, field-whole, field-more, field-short, field-end, blank-counts, at-most-le, at-most-align}
-use Rattle.rle.proofs.Kept.{keep-rows, keep-rows-short, keep-rows-end, blank-keeps}
+use Rattle.rle_model.specs.Codes.{fieldAt, fieldRead}
+use Rattle.rle_model.specs.Kept.{keptAll}
+use Rattle.rle_model.specs.Answers.{AtMost, fieldAnswer, plusField, measured}
+use Rattle.rle_model.specs.declared.Counts.{Counts}
+use Rattle.rle_model.proofs.Loops.{Rowed, rowed, row-aligned, unrowed, field-whole, field-more, field-short, field-end, blank-counts, at-most-le, at-most-align}
+use Rattle.rle_model.proofs.Kept.{keep-rows, keep-rows-short, keep-rows-end, blank-keeps}
 use Rattle.rle.proofs.measure_kept.Statement.{statement}
 use Rattle.rle.proofs.measure_kept.Tie as tie
 

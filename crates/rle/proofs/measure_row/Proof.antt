@@ -11,15 +11,15 @@ use lib.ListN.{length}
 use lib.Seq.{sets}
 use Rattle.outcome.specs.Outcome.{Res}
 use Rattle.grammar.specs.Rows.{Code, code}
-use Rattle.codes.specs.Codes.{rowAt, rowRead}
-use Rattle.rle.specs.Kept.{keptRow}
-use Rattle.rle.specs.Answers.{AtMost, rowAnswer}
-use Rattle.rle.specs.declared.Counts.{Counts}
+use Rattle.rle_model.specs.Codes.{rowAt, rowRead}
+use Rattle.rle_model.specs.Kept.{keptRow}
+use Rattle.rle_model.specs.Answers.{AtMost, rowAnswer}
+use Rattle.rle_model.specs.declared.Counts.{Counts}
 use Rattle.grammar.proofs.Lengths.{paints-le}
-use Rattle.codes.proofs.Laws.{paints-pos}
-use Rattle.codes.proofs.Turns.{Coded, coded, uncoded}
-use Rattle.rle.proofs.Turns.{plusRow, row-whole, row-more, row-short, row-end, at-most-counted}
-use Rattle.rle.proofs.Kept.{keep-more, keep-short, keep-end}
+use Rattle.rle_model.proofs.Grammar.{paints-pos}
+use Rattle.rle_model.proofs.CodeLoops.{Coded, coded, uncoded}
+use Rattle.rle_model.proofs.Loops.{plusRow, row-whole, row-more, row-short, row-end, at-most-counted}
+use Rattle.rle_model.proofs.Kept.{keep-more, keep-short, keep-end}
 use Rattle.rle.proofs.measure_row.Statement.{statement}
 use Rattle.rle.proofs.measure_row.Tie as tie
 

@@ -1,6 +1,6 @@
 -- `rle::place_after` meets its contract. Assumes nothing.
 use borrow.Author.Needs.{needs}
-use Rattle.rle.proofs.Kept.{place-end, place-on}
+use Rattle.rle_model.proofs.Kept.{place-end, place-on}
 use Rattle.rle.proofs.place_after.Statement.{statement}
 use Rattle.rle.proofs.place_after.Tie as tie
 

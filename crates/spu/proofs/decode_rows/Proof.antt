@@ -2,7 +2,7 @@
 use borrow.Author.Needs.{needs}
 use native.Mathlib.Omega.{arith}
 use Rattle.grammar.specs.Record.{told}
-use Rattle.spu.proofs.Turns.{known, rows-kept, spans-inside, room, rows-decoded}
+use Rattle.spu_model.proofs.Loops.{known, rows-kept, spans-inside, room, rows-decoded}
 use Rattle.spu.proofs.decode_rows.Statement.{statement}
 use Rattle.spu.proofs.decode_rows.Tie as tie
 

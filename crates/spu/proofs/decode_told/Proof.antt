@@ -5,9 +5,8 @@ use Prim.Native.Nat.{_*_, _≤_, _<_}
 use mathlib.Core.Path.{ap, subst, _∙_}
 use lib.ListN.{length}
 use Rattle.grammar.specs.Record.{told, width, height}
-use Rattle.control.specs.declared.Spu.{Spu}
-use Rattle.spu.specs.declared.Layout.{Layout}
-use Rattle.spu.proofs.Turns.{area-small, short-map, short-bands, decoded-shows, decoded-stops, needs-words, words-are, is-ok}
+use Rattle.spu_model.specs.declared.Layout.{Layout}
+use Rattle.spu_model.proofs.Loops.{area-small, short-map, short-bands, decoded-shows, decoded-stops, needs-words, words-are, is-ok}
 use Rattle.spu.proofs.decode_told.Statement.{statement}
 use Rattle.spu.proofs.decode_told.Tie as tie
 

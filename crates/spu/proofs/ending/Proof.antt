@@ -1,5 +1,5 @@
 -- `spu::ending` meets its contract: by the order of three places. Assumes nothing.
-use Rattle.spu.proofs.Turns.{end-at-bottom, end-not-past, end-at-control}
+use Rattle.spu_model.proofs.Loops.{end-at-bottom, end-not-past, end-at-control}
 use Rattle.spu.proofs.ending.Statement.{statement}
 use Rattle.spu.proofs.ending.Tie as tie
 

@@ -2,7 +2,7 @@
 use borrow.Author.Needs.{needs}
 use native.Mathlib.Omega.{arith}
 use Rattle.grammar.specs.Bytes.{word}
-use Rattle.spu.proofs.Turns.{known, same, laid}
+use Rattle.spu_model.proofs.Loops.{known, same, laid}
 use Rattle.spu.proofs.laid_out.Statement.{statement}
 use Rattle.spu.proofs.laid_out.Tie as tie
 

@@ -2,7 +2,7 @@
 use borrow.Author.Needs.{needs}
 use native.Mathlib.Omega.{arith}
 use Rattle.grammar.specs.Record.{told}
-use Rattle.spu.proofs.Turns.{known, rows-none, spans-inside, area-small, rows-measured}
+use Rattle.spu_model.proofs.Loops.{known, rows-none, spans-inside, area-small, rows-measured}
 use Rattle.spu.proofs.measure_rows.Statement.{statement}
 use Rattle.spu.proofs.measure_rows.Tie as tie
 

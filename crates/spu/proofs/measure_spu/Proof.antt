@@ -1,7 +1,7 @@
 -- `spu::measure_spu` meets its contract: the control blocks, then the rows. Assumes nothing.
 use borrow.Author.Needs.{needs}
 use mathlib.Core.Path.{sym, _∙_}
-use Rattle.spu.proofs.Turns.{told-by, refused-by, measured-refused, measured-shows, measured-stops}
+use Rattle.spu_model.proofs.Loops.{told-by, refused-by, measured-refused, measured-shows, measured-stops}
 use Rattle.spu.proofs.measure_spu.Statement.{statement}
 use Rattle.spu.proofs.measure_spu.Tie as tie
 

@@ -1,7 +1,7 @@
 -- `spu::parse_and_decode_spu` meets its contract: the control blocks, then the rest. Assumes nothing.
 use borrow.Author.Needs.{needs}
 use mathlib.Core.Path.{sym, _∙_}
-use Rattle.spu.proofs.Turns.{told-by, refused-by, decoded-refused}
+use Rattle.spu_model.proofs.Loops.{told-by, refused-by, decoded-refused}
 use Rattle.spu.proofs.parse_and_decode_spu.Statement.{statement}
 use Rattle.spu.proofs.parse_and_decode_spu.Tie as tie
 

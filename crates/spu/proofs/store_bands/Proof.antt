@@ -1,7 +1,7 @@
 -- `spu::store_bands` meets its contract: where there are no words, storing none changes nothing. Assumes nothing.
 use borrow.Author.Needs.{needs}
-use Rattle.bands.specs.Fill.{unitWords}
-use Rattle.spu.proofs.Turns.{no-words}
+use Rattle.control_model.specs.Fill.{unitWords}
+use Rattle.spu_model.proofs.Loops.{no-words}
 use Rattle.spu.proofs.store_bands.Statement.{statement}
 use Rattle.spu.proofs.store_bands.Tie as tie
 

@@ -1,7 +1,7 @@
 -- `spu::with_codes` meets its contract: one value is another. Assumes nothing.
 use mathlib.Core.Path.{ap}
-use Rattle.control.specs.Answers.{spuOf}
-use Rattle.control.specs.declared.Spu.{Spu}
+use Rattle.control_model.specs.Answers.{spuOf}
+use Rattle.control_model.specs.declared.Spu.{Spu}
 use Rattle.spu.proofs.with_codes.Statement.{statement}
 use Rattle.spu.proofs.with_codes.Tie as tie
 

@@ -2,8 +2,8 @@
 use Prim.Native.Nat.{ℕ}
 use native.Mathlib.Omega.{arith}
 use mathlib.Core.Path.{_≡_}
-use Rattle.ps.proofs.Unit.{named}
-use Rattle.vobsub.proofs.Call.{cue-refused, unit-none, unit-some, kept}
+use Rattle.ps_model.proofs.Unit.{named}
+use Rattle.vobsub_model.proofs.Call.{cue-refused, unit-none, unit-some, kept}
 use borrow.Author.Needs.{needs}
 use Rattle.vobsub.proofs.decode_cue.Statement.{statement}
 use Rattle.vobsub.proofs.decode_cue.Tie as tie

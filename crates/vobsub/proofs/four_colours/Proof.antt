@@ -1,5 +1,5 @@
 -- `vobsub::four_colours` meets its contract: four pixels. Assumes nothing.
-use Rattle.vobsub.proofs.Painting.{four-are}
+use Rattle.vobsub_model.proofs.Painting.{four-are}
 use borrow.Author.Needs.{needs}
 use Rattle.vobsub.proofs.four_colours.Statement.{statement}
 use Rattle.vobsub.proofs.four_colours.Tie as tie

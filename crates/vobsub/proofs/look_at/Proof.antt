@@ -1,5 +1,5 @@
 -- `vobsub::look_at` meets its contract: by what the bands give. Assumes nothing.
-use Rattle.vobsub.proofs.Painting.{look-found, look-none}
+use Rattle.vobsub_model.proofs.Painting.{look-found, look-none}
 use borrow.Author.Needs.{needs}
 use Rattle.vobsub.proofs.look_at.Statement.{statement}
 use Rattle.vobsub.proofs.look_at.Tie as tie

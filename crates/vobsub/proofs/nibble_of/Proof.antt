@@ -1,6 +1,6 @@
 -- `vobsub::nibble_of` meets its contract: colour by colour. Assumes nothing.
 use native.Mathlib.Omega.{arith}
-use Rattle.vobsub.proofs.Painting.{nibble-last}
+use Rattle.vobsub_model.proofs.Painting.{nibble-last}
 use borrow.Author.Needs.{needs}
 use Rattle.vobsub.proofs.nibble_of.Statement.{statement}
 use Rattle.vobsub.proofs.nibble_of.Tie as tie

@@ -1,10 +1,10 @@
 -- `vobsub::paint` meets its contract: the lines left give the whole. Assumes nothing.
-use Prim.Native.Nat.{ℕ, _+_, _-_, _*_, _≤_}
+use Prim.Native.Nat.{_+_, _-_, _≤_}
 use native.Mathlib.Omega.{arith}
 use lib.ListN.{length}
-use lib.Seq.{slice, length-slice}
-use Rattle.vobsub.specs.Paint.{lookIs, wordLook}
-use Rattle.vobsub.proofs.Painting.{line-room, Lines, lines-start, lines-go, lines-end}
+use lib.Seq.{length-slice}
+use Rattle.vobsub_model.specs.Paint.{lookIs, wordLook}
+use Rattle.vobsub_model.proofs.Painting.{line-room, Lines, lines-start, lines-go, lines-end}
 use borrow.Author.Needs.{needs}
 use Rattle.vobsub.proofs.paint.Statement.{statement}
 use Rattle.vobsub.proofs.paint.Tie as tie

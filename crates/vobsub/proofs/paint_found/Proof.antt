@@ -1,8 +1,8 @@
 -- `vobsub::paint_found` meets its contract: the unit's bytes, painted. Assumes nothing.
 use mathlib.Core.Path.{sym, ap, _∙_}
-use Rattle.vobsub.specs.Answers.{paintsOf}
-use Rattle.vobsub.specs.declared.CanvasAnswer.the-variants as canvas-answer
-use Rattle.vobsub.proofs.Turns.{shows-sides, found-painted}
+use Rattle.vobsub_model.specs.Answers.{paintsOf}
+use Rattle.vobsub_model.specs.declared.CanvasAnswer.the-variants as canvas-answer
+use Rattle.vobsub_model.proofs.Loops.{shows-sides, found-painted}
 use borrow.Author.Needs.{needs}
 use Rattle.vobsub.proofs.paint_found.Statement.{statement}
 use Rattle.vobsub.proofs.paint_found.Tie as tie

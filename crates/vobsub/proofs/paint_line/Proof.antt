@@ -3,8 +3,8 @@ use mathlib.Core.Path.{sym, ap, _∙_}
 use mathlib.Core.List.{List}
 use Prim.Native.Nat.{ℕ}
 use lib.Seq.{sets}
-use Rattle.vobsub.specs.Paint.{lookIs, wordLook, tableLine}
-use Rattle.vobsub.proofs.Painting.{table-line, line-own}
+use Rattle.vobsub_model.specs.Paint.{lookIs, wordLook, tableLine}
+use Rattle.vobsub_model.proofs.Painting.{table-line, line-own}
 use borrow.Author.Needs.{needs}
 use Rattle.vobsub.proofs.paint_line.Statement.{statement}
 use Rattle.vobsub.proofs.paint_line.Tie as tie

@@ -1,10 +1,8 @@
 -- `vobsub::paint_plain` meets its contract: what is left of the line gives the whole. Assumes nothing.
-use Prim.Native.Nat.{ℕ, _-_, _*_}
+use Prim.Native.Nat.{_-_, _*_}
 use native.Mathlib.Omega.{arith}
-use mathlib.Core.Path.{refl}
-use mathlib.Core.List.{List}
 use lib.ListN.{length, getD}
-use Rattle.vobsub.proofs.Painting.{Painting, painting-starts, painting-goes, painting-ends, table-turn, tableFrom, table-is, table-done}
+use Rattle.vobsub_model.proofs.Painting.{Painting, painting-starts, painting-goes, painting-ends, table-turn, tableFrom, table-is, table-done}
 use borrow.Author.Needs.{needs}
 use Rattle.vobsub.proofs.paint_plain.Statement.{statement}
 use Rattle.vobsub.proofs.paint_plain.Tie as tie

@@ -5,8 +5,8 @@ use mathlib.Core.Path.{sym, subst}
 use lib.ListN.{length}
 use lib.Seq.{length-take-le}
 use Rattle.grammar.specs.Record.{told}
-use Rattle.spu.proofs.Turns.{known, area-small, needs-words}
-use Rattle.vobsub.proofs.Turns.{area-is, map-short, words-short, canvas-short, unit-stops, unit-shows, lent-map, lent-words, lent-canvas}
+use Rattle.spu_model.proofs.Loops.{known, area-small}
+use Rattle.vobsub_model.proofs.Loops.{map-short, words-short, canvas-short, unit-stops, unit-shows, lent-map, lent-words, lent-canvas}
 use borrow.Author.Needs.{needs}
 use Rattle.vobsub.proofs.paint_told.Statement.{statement}
 use Rattle.vobsub.proofs.paint_told.Tie as tie

@@ -1,12 +1,11 @@
 -- `vobsub::paint_under` meets its contract: what is left of the line gives the whole. Assumes nothing.
-use Prim.Native.Nat.{ℕ, _+_, _-_}
+use Prim.Native.Nat.{_+_, _-_}
 use native.Mathlib.Omega.{arith}
 use mathlib.Core.Path.{refl, ap, _∙_}
-use mathlib.Core.List.{List}
 use lib.ListN.{length, getD}
 use lib.Seq.{sets}
-use Rattle.vobsub.specs.Paint.{lookIs, wordLook}
-use Rattle.vobsub.proofs.Painting.{Painting, painting-starts, painting-goes, painting-ends, lineFrom, line-is, line-done, line-whole, quad-of}
+use Rattle.vobsub_model.specs.Paint.{lookIs, wordLook}
+use Rattle.vobsub_model.proofs.Painting.{Painting, painting-starts, painting-goes, painting-ends, lineFrom, line-is, line-done, line-whole, quad-of}
 use borrow.Author.Needs.{needs}
 use Rattle.vobsub.proofs.paint_under.Statement.{statement}
 use Rattle.vobsub.proofs.paint_under.Tie as tie

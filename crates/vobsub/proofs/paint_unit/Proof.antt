@@ -1,7 +1,7 @@
 -- `vobsub::paint_unit` meets its contract: what the control blocks tell, or their refusal. Assumes nothing.
 use mathlib.Core.Path.{sym, _∙_}
-use Rattle.spu.proofs.Turns.{told-by, refused-by}
-use Rattle.vobsub.proofs.Turns.{unit-refused}
+use Rattle.spu_model.proofs.Loops.{told-by, refused-by}
+use Rattle.vobsub_model.proofs.Loops.{unit-refused}
 use borrow.Author.Needs.{needs}
 use Rattle.vobsub.proofs.paint_unit.Statement.{statement}
 use Rattle.vobsub.proofs.paint_unit.Tie as tie

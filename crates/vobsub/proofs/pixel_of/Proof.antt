@@ -1,6 +1,5 @@
 -- `vobsub::pixel_of` meets its contract: clear where alpha is 0, and else the palette's colour. Assumes nothing.
-use native.Mathlib.Omega.{arith}
-use Rattle.vobsub.proofs.Painting.{pixel-clear, pixel-seen}
+use Rattle.vobsub_model.proofs.Painting.{pixel-clear, pixel-seen}
 use borrow.Author.Needs.{needs}
 use Rattle.vobsub.proofs.pixel_of.Statement.{statement}
 use Rattle.vobsub.proofs.pixel_of.Tie as tie

@@ -3,7 +3,7 @@ use Prim.Native.Nat.{ℕ, _+_, _<_}
 use native.Mathlib.Omega.{arith}
 use mathlib.Core.Path.{subst, sym}
 use lib.ListN.{length-set}
-use Rattle.vobsub.proofs.Painting.{room-2, room-3, four-stores}
+use Rattle.vobsub_model.proofs.Painting.{room-2, room-3, four-stores}
 use borrow.Author.Needs.{needs}
 use Rattle.vobsub.proofs.put4.Statement.{statement}
 use Rattle.vobsub.proofs.put4.Tie as tie

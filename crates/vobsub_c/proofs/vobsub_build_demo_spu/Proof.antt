@@ -3,8 +3,8 @@ use Prim.Native.Nat.{ℕ}
 use mathlib.Core.Path.{_≡_, sym, ap, _∙_}
 use mathlib.Core.List.{List}
 use borrow.Author.Needs.{needs}
-use Rattle.demo.specs.Answers.{Written}
-use Rattle.demo.specs.declared.DemoAnswer.{DemoAnswer}
+use Rattle.demo_model.specs.Answers.{Written}
+use Rattle.demo_model.specs.declared.DemoAnswer.{DemoAnswer}
 use Rattle.vobsub_c.specs.Answers.{demoRefusal, demoLength, UnitWritten}
 use Rattle.vobsub_c.proofs.Returned.{demo-returned}
 use Rattle.vobsub_c.proofs.vobsub_build_demo_spu.Statement.{statement}

@@ -7,10 +7,10 @@ use mir.Facts.{toZ-ofZ}
 use mir.Syntax.{w64}
 use borrow.Author.Needs.{needs}
 use Rattle.grammar.specs.Reading.{wanted}
-use Rattle.vobsub.specs.Call.{Lent}
-use Rattle.vobsub.specs.Answers.{CuePainted}
-use Rattle.vobsub.specs.Claim.{Exactly}
-use Rattle.vobsub.specs.declared.CanvasAnswer.{CanvasAnswer}
+use Rattle.vobsub_model.specs.Call.{Lent}
+use Rattle.vobsub_model.specs.Answers.{CuePainted}
+use Rattle.vobsub_model.specs.Claim.{Exactly}
+use Rattle.vobsub_model.specs.declared.CanvasAnswer.{CanvasAnswer}
 use Rattle.vobsub_c.specs.Answers.{canvasRefusal, canvasStart, canvasRecord, CueDecoded}
 use Rattle.vobsub_c.proofs.Returned.{canvas-returned}
 use Rattle.vobsub_c.proofs.vobsub_decode_cue.Statement.{statement}

@@ -3,8 +3,8 @@ use Prim.Native.Nat.{ℕ}
 use mathlib.Core.Path.{_≡_, sym, ap, _∙_}
 use mathlib.Core.List.{List}
 use borrow.Author.Needs.{needs}
-use Rattle.rle.specs.Answers.{Decoded}
-use Rattle.rle.specs.declared.FieldAnswer.{FieldAnswer}
+use Rattle.rle_model.specs.Answers.{Decoded}
+use Rattle.rle_model.specs.declared.FieldAnswer.{FieldAnswer}
 use Rattle.vobsub_c.specs.Answers.{fieldRefusal, fieldCodes, FieldDecoded}
 use Rattle.vobsub_c.proofs.Returned.{field-returned}
 use Rattle.vobsub_c.proofs.vobsub_decode_rle_field.Statement.{statement}

@@ -3,8 +3,8 @@ use Prim.Native.Nat.{ℕ}
 use mathlib.Core.Path.{_≡_, sym, ap, _∙_}
 use mathlib.Core.List.{List}
 use borrow.Author.Needs.{needs}
-use Rattle.ps.specs.Answers.{Extracted}
-use Rattle.ps.specs.declared.UnitAnswer.{UnitAnswer}
+use Rattle.ps_model.specs.Answers.{Extracted}
+use Rattle.ps_model.specs.declared.UnitAnswer.{UnitAnswer}
 use Rattle.vobsub_c.specs.Answers.{unitRefusal, unitLength, unitJoined, UnitExtracted}
 use Rattle.vobsub_c.proofs.Returned.{unit-returned}
 use Rattle.vobsub_c.proofs.vobsub_extract_spu.Statement.{statement}

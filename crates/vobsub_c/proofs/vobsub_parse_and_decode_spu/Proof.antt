@@ -3,8 +3,8 @@ use Prim.Native.Nat.{ℕ}
 use mathlib.Core.Path.{_≡_, refl, sym, ap, _∙_}
 use mathlib.Core.List.{List}
 use borrow.Author.Needs.{needs}
-use Rattle.spu.specs.Answers.{Decoded}
-use Rattle.spu.specs.declared.SpuAnswer.{SpuAnswer}
+use Rattle.spu_model.specs.Answers.{Decoded}
+use Rattle.spu_model.specs.declared.SpuAnswer.{SpuAnswer}
 use Rattle.vobsub_c.specs.Answers.{spuRefusal, spuRecord, UnitDecoded}
 use Rattle.vobsub_c.proofs.Returned.{spu-returned}
 use Rattle.vobsub_c.proofs.vobsub_parse_and_decode_spu.Statement.{statement}

@@ -3,8 +3,8 @@ use Prim.Native.Nat.{ℕ}
 use mathlib.Core.Path.{_≡_, sym, ap, _∙_}
 use mathlib.Core.List.{List}
 use borrow.Author.Needs.{needs}
-use Rattle.chg_colcon.specs.Answers.{Stored}
-use Rattle.chg_colcon.specs.declared.BandAnswer.{BandAnswer}
+use Rattle.bands_model.specs.Answers.{Stored}
+use Rattle.bands_model.specs.declared.BandAnswer.{BandAnswer}
 use Rattle.vobsub_c.specs.Answers.{bandRefusal, bandCount, BandsGiven}
 use Rattle.vobsub_c.proofs.Returned.{bands-returned}
 use Rattle.vobsub_c.proofs.vobsub_parse_chg_colcon_payload.Statement.{statement}

@@ -6,9 +6,10 @@ use mathlib.Core.List.{List}
 use lib.IntN.{ℤ}
 use borrow.Author.Needs.{needs}
 use borrow.Author.Tests.{eq-eqb, ne-eqb}
-use Rattle.idx.specs.Answers.{IdxRead}
-use Rattle.idx.specs.declared.IdxAnswer.{IdxAnswer}
-use Rattle.vobsub_c.specs.Answers.{idxNumbers, idxRecord, idxPalette, IndexGiven}
+use Rattle.idx_model.specs.Answers.{IdxRead}
+use Rattle.idx_model.specs.declared.IdxAnswer.{IdxAnswer}
+use Rattle.vobsub_c.specs.Answers.{idxRecord, idxPalette, IndexGiven}
+use Rattle.vobsub_numbers.specs.Numbers.{idxNumbers}
 use Rattle.vobsub_c.proofs.Returned.{index-returned}
 use Rattle.vobsub_c.proofs.vobsub_parse_idx.Statement.{statement}
 use Rattle.vobsub_c.proofs.vobsub_parse_idx.Tie as tie

@@ -8,10 +8,10 @@ use lib.ListN.{length, length-drop}
 use native.Mathlib.Omega.{arith}
 use borrow.Author.Needs.{needs}
 use Rattle.outcome.specs.Outcome.{Res, ok, refuse, no-unit, refusalOf}
-use Rattle.packets.specs.Packets.{bodyAt}
-use Rattle.packets.specs.Answers.{bodyRest, bodyFound}
-use Rattle.packets.proofs.Laws.{body-iff}
-use Rattle.packets.proofs.Shift.{body-refuses}
+use Rattle.ps_model.specs.OnePacket.{bodyAt}
+use Rattle.ps_model.specs.PacketAnswers.{bodyRest, bodyFound}
+use Rattle.ps_model.proofs.PacketGrammar.{body-iff}
+use Rattle.ps_model.proofs.Shift.{body-refuses}
 use Rattle.vobsub_c.specs.Answers.{bodyPlace, BodyFound}
 use Rattle.vobsub_c.proofs.Returned.{body-returned}
 use Rattle.vobsub_c.proofs.vobsub_parse_pes_body.Statement.{statement}

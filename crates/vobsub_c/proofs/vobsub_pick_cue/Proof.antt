@@ -8,10 +8,11 @@ use mir.Facts.{toZ-ofZ}
 use mir.Syntax.{w64}
 use borrow.Author.Needs.{needs}
 use borrow.Author.Tests.{eq-eqb, ne-eqb}
-use Rattle.idx.specs.Text.{textOf}
-use Rattle.idx.specs.Answers.{pickOf, cueAnswer}
-use Rattle.idx.specs.declared.CueAnswer.{CueAnswer}
-use Rattle.vobsub_c.specs.Answers.{cueNumbers, cueRecord, cueStart, cuePalette, CueGiven}
+use Rattle.idx_model.specs.Text.{textOf}
+use Rattle.idx_model.specs.Answers.{pickOf, cueAnswer}
+use Rattle.idx_model.specs.declared.CueAnswer.{CueAnswer}
+use Rattle.vobsub_c.specs.Answers.{cueRecord, cueStart, cuePalette, CueGiven}
+use Rattle.vobsub_numbers.specs.Numbers.{cueNumbers}
 use Rattle.vobsub_c.proofs.Returned.{cue-returned}
 use Rattle.vobsub_c.proofs.vobsub_pick_cue.Statement.{statement}
 use Rattle.vobsub_c.proofs.vobsub_pick_cue.Tie as tie

@@ -43,7 +43,7 @@ use denote.Triple.Spec.{Meets, tripleOf}
 use denote.Triple.Table.{entered, cited}
 use denote.Triple.Walked.{says, Stays, stay-ref, walkOf, goes-ref, Walks, ends-at, walked, walk-meets}
 use denote.Triple.Clauses.{ensured, lasts}
-use Rattle.nibbles.specs.Nibbles.{onByte}
+use Rattle.rle_model.specs.Nibbles.{onByte}
 use Rattle.nibbles.specs.declared.NibbleReader.{NibbleReader}
 use Rattle.nibbles.proofs.NibbleReader as T
 use Rattle.nibbles.proofs.NibbleReader.Laws as T′

@@ -44,13 +44,13 @@ use denote.Triple.Spec.{Meets, tripleOf}
 use denote.Triple.Table.{entered, cited}
 use denote.Triple.Walked.{says, Stays, stay-ref, walkOf, goes-ref, Walks, ends-at, walked, walk-meets}
 use denote.Triple.Clauses.{ensured, lasts}
-use Rattle.nibbles.specs.Nibbles.{nibbleAt, nibbleAnswer, pastNibble}
+use Rattle.rle_model.specs.Nibbles.{nibbleAt, nibbleAnswer, pastNibble}
 use Rattle.nibbles.specs.declared.NibbleReader.{NibbleReader}
-use Rattle.nibbles.specs.declared.Nibble.{Nibble}
+use Rattle.rle_model.specs.declared.Nibble.{Nibble}
 use Rattle.nibbles.proofs.NibbleReader as T
 use Rattle.nibbles.proofs.NibbleReader.Laws as T′
-use Rattle.nibbles.proofs.Nibble as S
-use Rattle.nibbles.proofs.Nibble.Laws as S′
+use Rattle.rle_model.proofs.Nibble as S
+use Rattle.rle_model.proofs.Nibble.Laws as S′
 use Rattle.nibbles.proofs.nibble_at as nibble
 use Rattle.nibbles.proofs.nibble_at.Symbol as nibble-def
 use Rattle.nibbles.proofs.nibble_at.Symbol.{name as #nibbles·nibble-at}

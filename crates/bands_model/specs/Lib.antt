@@ -1,0 +1,4 @@
+pub mod Bands
+pub mod Answers
+pub mod Claim
+pub mod Look

@@ -1,3 +1,0 @@
-pub mod Bands
-pub mod Answers
-pub mod Claim

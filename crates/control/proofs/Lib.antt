@@ -1,6 +1,0 @@
-pub mod Bits
-pub mod Listed
-pub mod Laws
-pub mod Told
-pub mod Turns
-pub mod Numbers

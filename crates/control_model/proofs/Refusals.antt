@@ -1,0 +1,110 @@
+-- Control blocks are refused with numbers of the table. Assumes nothing.
+use Prim.Native.Nat.{ℕ, _+_, _-_, _≤_}
+use mathlib.Core.Path.{_≡_, refl}
+use mathlib.Core.Bool.{true, false, _&&_}
+use mathlib.Core.Option.{Option, some, none}
+use mathlib.Core.List.{List, [], _∷_}
+use lib.Dec.{leb, ltb, eqb}
+use lib.ListN.{length}
+use lib.Seq.{slice}
+use Rattle.outcome.specs.Outcome.{ok, refuse, Numbered, no-head, bad-head, cut-parameters, small-size, no-band-list, unknown-command, no-area}
+use Rattle.outcome.proofs.Numbers.{in-table, check-numbered, checked-numbered, cond-numbered, andThen-numbered, mapRes-numbered, only-numbered, list-numbered}
+use Rattle.outcome.proofs.Laws.{clash, and-true}
+use borrow.Author.Tests.{leb-true}
+use Rattle.grammar.specs.Bytes.{byte, word, nibble, nibbles}
+use Rattle.grammar.specs.Control.{colours, sizeOf, lengthWord, controlWord}
+use Rattle.grammar.specs.Record.{told, untold, tellBlock, tellChain}
+use Rattle.bands_model.specs.Bands.{bandsOf, entriesOf, header, entryOf}
+use Rattle.bands_model.proofs.Refusals.{bands-refuses}
+use Rattle.control_model.specs.Listed.{heldBands, bandsAt, held}
+use Rattle.control_model.specs.Chain.{plainAt, changeAt, orderAt, command, commandAt, commandsStop, nextCommand, commandsAt, block, blockAt, chainStop, chainBlock, chainNext, chainLeft, blocksAt, headFits, chainAt, hasArea, controlAt}
+use Rattle.control_model.proofs.Grammar.{command-falls, chain-falls}
+use Rattle.outcome.specs.Lists.{listFuel, listFrom}
+
+module _ (u : List ℕ) (L : ℕ) where
+  bands-numbered : (e p : ℕ) → Numbered (bandsAt u e p)
+  unfolding bandsAt
+  bands-numbered e p =
+      mapRes-numbered (heldBands p) (bandsOf (slice p e u)) (only-numbered no-band-list (in-table no-band-list refl) (bandsOf (slice p e u)) (bands-refuses (slice p e u)))
+
+  change-numbered : (p : ℕ) → Numbered (changeAt u L p)
+  unfolding changeAt
+  change-numbered p =
+      check-numbered (leb (p + 2) L) cut-parameters _ (in-table cut-parameters refl)
+      (check-numbered (leb 2 (word u p)) small-size _ (in-table small-size refl)
+      (check-numbered (leb (p + word u p) L) cut-parameters _ (in-table cut-parameters refl)
+      (mapRes-numbered (colours (word u p)) (bandsAt u (p + word u p) (p + 2)) (bands-numbered (p + word u p) (p + 2)))))
+
+  order-numbered : (p k : ℕ) → Numbered (orderAt u L p k)
+  unfolding orderAt
+  order-numbered p k =
+      cond-numbered (ltb k 7) _ _ (check-numbered (leb (p + sizeOf (plainAt u p k)) L) cut-parameters (ok (plainAt u p k)) (in-table cut-parameters refl) tt)
+      (cond-numbered (eqb k 7) (changeAt u L p) (refuse unknown-command) (change-numbered p) (in-table unknown-command refl))
+
+  command-numbered : (p : ℕ) → Numbered (commandAt u L p)
+  unfolding commandAt
+  command-numbered p = mapRes-numbered (command p) (orderAt u L (p + 1) (byte u p)) (order-numbered (p + 1) (byte u p))
+
+  commands-numbered : L ≤ length u → (p : ℕ) → Numbered (commandsAt u L p)
+  unfolding commandsAt
+  commands-numbered i p = list-numbered (commandsStop u L) (commandAt u L) nextCommand (λ (q : ℕ). L - q) (command-falls u L i) (λ s h. command-numbered s) p
+
+  block-numbered : L ≤ length u → (p : ℕ) → Numbered (blockAt u L p)
+  unfolding blockAt
+  block-numbered i p = mapRes-numbered (block u p) (commandsAt u L (p + 4)) (commands-numbered i (p + 4))
+
+  blocks-numbered : L ≤ length u → (s : Option ℕ) → Numbered (blocksAt u L s)
+  unfolding blocksAt
+  blocks-numbered i s = list-numbered (chainStop L) (chainBlock u L) chainNext (chainLeft L) (chain-falls u L i) each s
+    where
+      each : (s : Option ℕ) → chainStop L s ≡ false → Numbered (chainBlock u L s)
+      each none h = absurd (clash true refl h)
+      each (some p) h = block-numbered i p
+
+pub control-numbered : (u : List ℕ) → Numbered (controlAt u)
+unfolding controlAt chainAt headFits
+control-numbered u =
+    andThen-numbered (chainAt u) _
+    (check-numbered (leb 4 (length u)) no-head _ (in-table no-head refl)
+    (checked-numbered (headFits u) bad-head _ (in-table bad-head refl)
+    (λ t. blocks-numbered u (lengthWord u) (leb-true _ _ (and-true (leb 4 (controlWord u) && leb (controlWord u) (lengthWord u)) (leb (lengthWord u) (length u)) t .1)) (some (controlWord u)))))
+    (λ bs. check-numbered (hasArea (told bs)) no-area (ok bs) (in-table no-area refl) tt)
+
+-- a unit with one byte of field, a block at 5 whose next word is n, and these bytes after its head
+abbrev unit : ℕ → List ℕ → List ℕ
+unit n bs = 0x00 ∷ (9 + length bs) ∷ 0x00 ∷ 0x05 ∷ 0x70 ∷ 0x00 ∷ 0x00 ∷ 0x00 ∷ n ∷ bs
+
+-- each order of FORMAT 9: a unit on which both are true, and the number that is given
+pub orders :
+    -- 16, and 20
+    (controlAt (0x00 ∷ 0x0A ∷ 0x00 ∷ 0x03 ∷ 0x00 ∷ 0x05 ∷ 0x00 ∷ 0x04 ∷ 0x08 ∷ 0xFF ∷ []) ≡ refuse bad-head)
+    -- 17 and 19 of one command
+    × (controlAt (unit 0x05 (0x07 ∷ 0x00 ∷ 0x06 ∷ 0x10 ∷ 0x00 ∷ [])) ≡ refuse cut-parameters)
+    -- 17, then 20
+    × (controlAt (unit 0x08 (0x05 ∷ 0x00 ∷ 0x00 ∷ 0x08 ∷ 0x00 ∷ 0x00 ∷ 0x00 ∷ 0x03 ∷ [])) ≡ refuse cut-parameters)
+    -- 18, then 19
+    × (controlAt (unit 0x0D (0x07 ∷ 0x00 ∷ 0x01 ∷ 0xFF ∷ 0x00 ∷ 0x00 ∷ 0x00 ∷ 0x0D ∷ 0x07 ∷ 0x00 ∷ 0x03 ∷ 0x00 ∷ 0xFF ∷ [])) ≡ refuse small-size)
+    -- 18, then 20
+    × (controlAt (unit 0x05 (0x07 ∷ 0x00 ∷ 0x00 ∷ 0x08 ∷ 0xFF ∷ [])) ≡ refuse small-size)
+    -- 19, then 17
+    × (controlAt (unit 0x05 (0x07 ∷ 0x00 ∷ 0x03 ∷ 0x00 ∷ 0x05 ∷ [])) ≡ refuse no-band-list)
+    -- 19, then 18
+    × (controlAt (unit 0x0E (0x07 ∷ 0x00 ∷ 0x03 ∷ 0x00 ∷ 0xFF ∷ 0x00 ∷ 0x00 ∷ 0x00 ∷ 0x0E ∷ 0x07 ∷ 0x00 ∷ 0x01 ∷ 0xFF ∷ [])) ≡ refuse no-band-list)
+    -- 19, then 20
+    × (controlAt (unit 0x05 (0x07 ∷ 0x00 ∷ 0x03 ∷ 0x00 ∷ 0x08 ∷ 0xFF ∷ [])) ≡ refuse no-band-list)
+    -- 20, then 17
+    × (controlAt (unit 0x0B (0x08 ∷ 0xFF ∷ 0x00 ∷ 0x00 ∷ 0x00 ∷ 0x0B ∷ 0x03 ∷ 0x00 ∷ [])) ≡ refuse unknown-command)
+    -- 20, then 18
+    × (controlAt (unit 0x0B (0x08 ∷ 0xFF ∷ 0x00 ∷ 0x00 ∷ 0x00 ∷ 0x0B ∷ 0x07 ∷ 0x00 ∷ 0x01 ∷ 0xFF ∷ [])) ≡ refuse unknown-command)
+    -- 20, then 19
+    × (controlAt (unit 0x0B (0x08 ∷ 0xFF ∷ 0x00 ∷ 0x00 ∷ 0x00 ∷ 0x0B ∷ 0x07 ∷ 0x00 ∷ 0x03 ∷ 0x00 ∷ 0xFF ∷ [])) ≡ refuse unknown-command)
+    -- 17, and 21
+    × (controlAt (unit 0x05 (0x05 ∷ 0x00 ∷ 0x10 ∷ 0x00 ∷ 0x00 ∷ 0x00 ∷ 0x00 ∷ 0x03 ∷ 0x00 ∷ [])) ≡ refuse cut-parameters)
+    -- 18, and 21
+    × (controlAt (unit 0x05 (0x05 ∷ 0x00 ∷ 0x10 ∷ 0x00 ∷ 0x00 ∷ 0x00 ∷ 0x00 ∷ 0x07 ∷ 0x00 ∷ 0x01 ∷ 0xFF ∷ [])) ≡ refuse small-size)
+    -- 19, and 21
+    × (controlAt (unit 0x05 (0x05 ∷ 0x00 ∷ 0x10 ∷ 0x00 ∷ 0x00 ∷ 0x00 ∷ 0x00 ∷ 0x07 ∷ 0x00 ∷ 0x03 ∷ 0x00 ∷ 0xFF ∷ [])) ≡ refuse no-band-list)
+    -- 20, and 21
+    × (controlAt (unit 0x05 (0x05 ∷ 0x00 ∷ 0x10 ∷ 0x00 ∷ 0x00 ∷ 0x00 ∷ 0x00 ∷ 0x08 ∷ [])) ≡ refuse unknown-command)
+unfolding listFrom listFuel word nibbles nibble untold tellBlock tellChain bandsAt bandsOf entriesOf header entryOf held plainAt changeAt orderAt commandAt commandsAt blockAt blocksAt headFits chainAt controlAt
+orders = (refl, refl, refl, refl, refl, refl, refl, refl, refl, refl, refl, refl, refl, refl, refl)

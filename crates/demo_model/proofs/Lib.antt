@@ -1,0 +1,11 @@
+pub mod Read
+pub mod Marks
+pub mod Fields
+pub mod Pack
+pub mod Unit
+pub mod Ink
+pub mod Picture
+pub mod Whole
+pub mod Claim
+pub mod Refusals
+pub mod Cards

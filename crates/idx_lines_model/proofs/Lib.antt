@@ -1,0 +1,10 @@
+pub mod Grammar
+pub mod Fields
+pub mod Clock
+pub mod Sizes
+pub mod Places
+pub mod Palettes
+pub mod Stamps
+pub mod Words
+pub mod Refusals
+pub mod Cards

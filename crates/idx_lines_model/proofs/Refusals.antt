@@ -1,0 +1,54 @@
+-- A line is refused with 2 to 9, in this order. Assumes nothing.
+use mathlib.Core.Path.{refl, _≡_}
+use mathlib.Core.Option.{Option, some, none}
+use Rattle.outcome.proofs.Numbers.{in-table, check-numbered, need-numbered, andThen-numbered}
+use Rattle.outcome.specs.Outcome.{need, bad-width, bad-height, bad-token, no-time, no-position, bad-time, long-time, bad-position, Numbered, refuse}
+use Rattle.grammar.specs.Parts.{Part}
+use Rattle.grammar.specs.IndexParts.{colon, letter-x}
+use Rattle.grammar.specs.Index.{size-word, palette-word, timestamp-word, filepos-word, top-side, startOf}
+use Rattle.idx_numbers_model.specs.Parts.{trim, split, after, part, strip, front, rest, shorn, all}
+use Rattle.idx_numbers_model.specs.Numbers.{unsigned, positionOf, signed, bare}
+use Rattle.idx_lines_model.specs.Lines.{Two, halves, sizeOr, tokens, fields, steps, firstOf, lastOf, isFilepos, isOther, partsAt, positionAt, byWord, lineOf}
+use mathlib.Core.List.{[], _∷_}
+use Rattle.grammar.specs.IndexNumbers.{numeral}
+
+pub line-numbered : (i : Part) → Numbered (lineOf i)
+unfolding lineOf
+line-numbered i = go (after size-word i) (after palette-word i) (after timestamp-word i)
+  where
+    sides : (t : Option Two) → Numbered (sizeOr i t)
+    sides none = tt
+    sides (some t) =
+        andThen-numbered (need bad-width (unsigned 10 top-side (trim (t .left) .bytes))) _ (need-numbered bad-width (unsigned 10 top-side (trim (t .left) .bytes)) (in-table bad-width refl))
+        (λ w. andThen-numbered (need bad-height (unsigned 10 top-side (trim (t .right) .bytes))) _ (need-numbered bad-height (unsigned 10 top-side (trim (t .right) .bytes)) (in-table bad-height refl)) (λ h. tt))
+
+    go : (a b c : Option Part) → Numbered (byWord i a b c)
+    go (some r) b c = sides (halves letter-x r)
+    go none (some r) c = andThen-numbered (need bad-token (tokens 16 (r .place) (r .bytes))) _ (need-numbered bad-token (tokens 16 (r .place) (r .bytes)) (in-table bad-token refl)) (λ ts. tt)
+    go none none (some r) =
+        andThen-numbered (need no-time (firstOf isOther (partsAt (r .place) (r .bytes)))) _ (need-numbered no-time (firstOf isOther (partsAt (r .place) (r .bytes))) (in-table no-time refl))
+        (λ t. andThen-numbered (need no-position (lastOf isFilepos (partsAt (r .place) (r .bytes)))) _ (need-numbered no-position (lastOf isFilepos (partsAt (r .place) (r .bytes))) (in-table no-position refl))
+        (λ p. andThen-numbered (need bad-time (fields 4 (split colon (t .place) (t .bytes)))) _ (need-numbered bad-time (fields 4 (split colon (t .place) (t .bytes))) (in-table bad-time refl))
+        (λ fs. check-numbered (steps fs) long-time (positionAt i (partsAt (r .place) (r .bytes)) fs p) (in-table long-time refl)
+        (andThen-numbered (need bad-position (after filepos-word p)) _ (need-numbered bad-position (after filepos-word p) (in-table bad-position refl))
+        (λ x. andThen-numbered (need bad-position (positionOf (trim x .bytes))) _ (need-numbered bad-position (positionOf (trim x .bytes)) (in-table bad-position refl)) (λ v. tt))))))
+    go none none none = tt
+
+-- each order of FORMAT 9 in a line: one on which both are true, and the number that is given
+pub orders :
+    -- 2, and 3: `size:x`
+    (lineOf (part 0 (115 ∷ 105 ∷ 122 ∷ 101 ∷ 58 ∷ 120 ∷ [])) ≡ refuse bad-width)
+    -- 5, and 9: `timestamp:filepos:`
+    × (lineOf (part 0 (116 ∷ 105 ∷ 109 ∷ 101 ∷ 115 ∷ 116 ∷ 97 ∷ 109 ∷ 112 ∷ 58 ∷ 102 ∷ 105 ∷ 108 ∷ 101 ∷ 112 ∷ 111 ∷ 115 ∷ 58 ∷ [])) ≡ refuse no-time)
+    -- 6, and 7: `timestamp:`
+    × (lineOf (part 0 (116 ∷ 105 ∷ 109 ∷ 101 ∷ 115 ∷ 116 ∷ 97 ∷ 109 ∷ 112 ∷ 58 ∷ [])) ≡ refuse no-position)
+    -- 6, and 8: `timestamp:2562047789`
+    × (lineOf (part 0 (116 ∷ 105 ∷ 109 ∷ 101 ∷ 115 ∷ 116 ∷ 97 ∷ 109 ∷ 112 ∷ 58 ∷ 50 ∷ 53 ∷ 54 ∷ 50 ∷ 48 ∷ 52 ∷ 55 ∷ 55 ∷ 56 ∷ 57 ∷ [])) ≡ refuse no-position)
+    -- 7, and 8: `timestamp:2562047789:x,filepos:0`
+    × (lineOf (part 0 (116 ∷ 105 ∷ 109 ∷ 101 ∷ 115 ∷ 116 ∷ 97 ∷ 109 ∷ 112 ∷ 58 ∷ 50 ∷ 53 ∷ 54 ∷ 50 ∷ 48 ∷ 52 ∷ 55 ∷ 55 ∷ 56 ∷ 57 ∷ 58 ∷ 120 ∷ 44 ∷ 102 ∷ 105 ∷ 108 ∷ 101 ∷ 112 ∷ 111 ∷ 115 ∷ 58 ∷ 48 ∷ [])) ≡ refuse bad-time)
+    -- 7, and 9: `timestamp:x,filepos:`
+    × (lineOf (part 0 (116 ∷ 105 ∷ 109 ∷ 101 ∷ 115 ∷ 116 ∷ 97 ∷ 109 ∷ 112 ∷ 58 ∷ 120 ∷ 44 ∷ 102 ∷ 105 ∷ 108 ∷ 101 ∷ 112 ∷ 111 ∷ 115 ∷ 58 ∷ [])) ≡ refuse bad-time)
+    -- 8, and 9: `timestamp:2562047789,filepos:`
+    × (lineOf (part 0 (116 ∷ 105 ∷ 109 ∷ 101 ∷ 115 ∷ 116 ∷ 97 ∷ 109 ∷ 112 ∷ 58 ∷ 50 ∷ 53 ∷ 54 ∷ 50 ∷ 48 ∷ 52 ∷ 55 ∷ 55 ∷ 56 ∷ 57 ∷ 44 ∷ 102 ∷ 105 ∷ 108 ∷ 101 ∷ 112 ∷ 111 ∷ 115 ∷ 58 ∷ [])) ≡ refuse long-time)
+unfolding lineOf strip trim front rest shorn split partsAt firstOf lastOf fields steps unsigned signed bare all numeral startOf
+orders = (refl, refl, refl, refl, refl, refl, refl)

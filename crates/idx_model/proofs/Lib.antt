@@ -1,0 +1,9 @@
+pub mod Grammar
+pub mod Loops
+pub mod Stores
+pub mod Picks
+pub mod Durations
+pub mod Whole
+pub mod Refusals
+pub mod Claim
+pub mod Cards

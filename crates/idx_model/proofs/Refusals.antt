@@ -1,0 +1,63 @@
+-- A text is refused with a number of the table: 1, then 2 to 10 of its first faulty line; and for one cue 11 after these. Assumes nothing.
+use Prim.Native.Nat.{ℕ, _+_}
+use mathlib.Core.Path.{_≡_, refl, subst}
+use mathlib.Core.Option.{Option, some, none}
+use mathlib.Core.List.{List, [], _∷_}
+use Rattle.outcome.proofs.Numbers.{in-table, check-numbered, need-numbered, andThen-numbered}
+use Rattle.outcome.specs.Outcome.{ok, refuse, need, high-byte, short-cues, no-cue, Numbered, bad-width, bad-token, bad-position}
+use Rattle.grammar.specs.Parts.{Part}
+use Rattle.grammar.specs.IndexParts.{line-end}
+use Rattle.grammar.specs.IndexCues.{cuesOf, cueAt}
+use Rattle.idx_numbers_model.specs.Parts.{all, trim, split, strip, front, rest, shorn}
+use Rattle.idx_lines_model.specs.Lines.{lineOf, tokens, partsAt, firstOf, lastOf, fields, steps}
+use Rattle.idx_model.specs.Text.{orNone, cuesIn, roomFor, linesIn, lowByte, textIn, textOf}
+use Rattle.idx_model.specs.Answers.{pickOf}
+use Rattle.idx_lines_model.proofs.Refusals.{line-numbered}
+use Rattle.outcome.proofs.Numbers.{not-0}
+use Rattle.grammar.specs.IndexNumbers.{numeral}
+use Rattle.grammar.specs.Index.{startOf}
+use Rattle.idx_numbers_model.specs.Numbers.{unsigned, signed, bare}
+
+lines-numbered : (room : Option ℕ) (ps : List Part) (k : ℕ) → Numbered (linesIn room k ps)
+unfolding linesIn
+lines-numbered room [] k = tt
+lines-numbered room (p ∷ ps) k =
+    andThen-numbered (lineOf (trim p)) _ (line-numbered (trim p))
+    (λ o. check-numbered (roomFor room k o) short-cues _ (in-table short-cues refl)
+    (andThen-numbered (linesIn room (k + cuesIn o) ps) (λ ls. ok (orNone o ls)) (lines-numbered room ps (k + cuesIn o)) (λ ls. tt)))
+
+pub text-numbered : (room : Option ℕ) (text : List ℕ) → Numbered (textIn room text)
+unfolding textIn
+text-numbered room text =
+    check-numbered (all lowByte text) high-byte (linesIn room 0 (split line-end 0 text)) (in-table high-byte refl) (lines-numbered room (split line-end 0 text) 0)
+
+pub text-refuses : (room : Option ℕ) (text : List ℕ) (n : ℕ) → textIn room text ≡ refuse n → n ≡ 0 → ⊥
+text-refuses room text n e z = not-0 n (subst Numbered e (text-numbered room text)) z
+
+pub pick-numbered : (text : List ℕ) (n : ℕ) → Numbered (pickOf (textOf text) n)
+unfolding pickOf
+pick-numbered text n =
+    andThen-numbered (textOf text) _ (text-numbered none text)
+    (λ ls. andThen-numbered (need no-cue (cueAt (cuesOf ls) n)) _ (need-numbered no-cue (cueAt (cuesOf ls) n) (in-table no-cue refl)) (λ c. tt))
+
+-- each order of FORMAT 9: a text and the room of the cue buffers on which both are true, and the number that is given
+pub orders :
+    -- 1, and 2: `size:x` and a byte 80
+    (textIn none (115 ∷ 105 ∷ 122 ∷ 101 ∷ 58 ∷ 120 ∷ 128 ∷ []) ≡ refuse high-byte)
+    -- of two faulty lines the first: `palette:g`, `size:x`
+    × (textIn none (112 ∷ 97 ∷ 108 ∷ 101 ∷ 116 ∷ 116 ∷ 101 ∷ 58 ∷ 103 ∷ 10 ∷ 115 ∷ 105 ∷ 122 ∷ 101 ∷ 58 ∷ 120 ∷ []) ≡ refuse bad-token)
+    -- 9, and 10 of one line: `timestamp:0,filepos:`, and no place
+    × (textIn (some 0) (116 ∷ 105 ∷ 109 ∷ 101 ∷ 115 ∷ 116 ∷ 97 ∷ 109 ∷ 112 ∷ 58 ∷ 48 ∷ 44 ∷ 102 ∷ 105 ∷ 108 ∷ 101 ∷ 112 ∷ 111 ∷ 115 ∷ 58 ∷ []) ≡ refuse bad-position)
+    -- 10, and then 2: `timestamp:0,filepos:0`, `size:x`, and no place
+    × (textIn (some 0) (116 ∷ 105 ∷ 109 ∷ 101 ∷ 115 ∷ 116 ∷ 97 ∷ 109 ∷ 112 ∷ 58 ∷ 48 ∷ 44 ∷ 102 ∷ 105 ∷ 108 ∷ 101 ∷ 112 ∷ 111 ∷ 115 ∷ 58 ∷ 48 ∷ 10 ∷ 115 ∷ 105 ∷ 122 ∷ 101 ∷ 58 ∷ 120 ∷ []) ≡ refuse short-cues)
+    -- 2, and then 10: `size:x`, `timestamp:0,filepos:0`, and no place
+    × (textIn (some 0) (115 ∷ 105 ∷ 122 ∷ 101 ∷ 58 ∷ 120 ∷ 10 ∷ 116 ∷ 105 ∷ 109 ∷ 101 ∷ 115 ∷ 116 ∷ 97 ∷ 109 ∷ 112 ∷ 58 ∷ 48 ∷ 44 ∷ 102 ∷ 105 ∷ 108 ∷ 101 ∷ 112 ∷ 111 ∷ 115 ∷ 58 ∷ 48 ∷ []) ≡ refuse bad-width)
+unfolding textIn linesIn lineOf tokens strip trim front rest shorn split partsAt firstOf lastOf fields steps unsigned signed bare all numeral startOf
+orders = (refl, refl, refl, refl, refl)
+
+-- 4, and 11: `palette:g`, of which no cue is the first
+pub cue-orders :
+    -- 4, and 11
+    (pickOf (textOf (112 ∷ 97 ∷ 108 ∷ 101 ∷ 116 ∷ 116 ∷ 101 ∷ 58 ∷ 103 ∷ [])) 0 ≡ refuse bad-token)
+unfolding pickOf textIn linesIn lineOf tokens strip trim front rest shorn split unsigned bare all numeral
+cue-orders = refl

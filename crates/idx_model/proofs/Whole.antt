@@ -1,0 +1,71 @@
+-- From what was measured to the answers, over plain variables. Assumes nothing.
+use Prim.Native.Nat.{ℕ, _<_, min}
+use mathlib.Core.Path.{_≡_, refl, sym, ap, _∙_, subst}
+use mathlib.Core.Option.{some}
+use mathlib.Core.List.{List}
+use lib.IntN.{ℤ}
+use lib.ListN.{length}
+use Rattle.outcome.specs.Outcome.{Res, ok, refuse, IsOk}
+use Rattle.grammar.specs.Index.{Said}
+use Rattle.grammar.specs.IndexCues.{cuesOf, first-palette, paletteOf}
+use Rattle.idx_numbers_model.proofs.Grammar.{never}
+use Rattle.idx_model.specs.Text.{textIn, textOf}
+use Rattle.idx_model.specs.Answers.{nothing-seen, seeAll, measuredOf, MeasuredAs, CuesStored, linesWith, idxAnswer, IdxRead, pickOf, cueAnswer}
+use Rattle.idx_model.specs.declared.Seen.{Seen}
+use Rattle.idx_model.specs.declared.Measured.{Measured}
+use Rattle.idx_model.specs.declared.Measured.the-variants as measured
+use Rattle.idx_model.specs.declared.IdxAnswer.{IdxAnswer}
+use Rattle.idx_model.specs.declared.CueAnswer.{CueAnswer}
+use Rattle.idx_model.proofs.Picks.{text-open}
+
+-- ---- what a measure says of the lines
+pub measured-refused : (cue : ℕ) (lines : Res (List Said)) (r : Measured) (n : ℕ) → r ≡ measuredOf cue nothing-seen lines → r ≡ measured.Refused n → lines ≡ refuse n
+measured-refused cue (ok ls) r n e f = never (cc)
+measured-refused cue (refuse m) r n e f = let q : m ≡ n = cc in ap refuse q
+
+pub measured-saw : (cue : ℕ) (lines : Res (List Said)) (r : Measured) (s : Seen) → r ≡ measuredOf cue nothing-seen lines → r ≡ measured.Saw s
+    → (ls : List Said) × (lines ≡ ok ls) × (s ≡ seeAll cue nothing-seen ls)
+measured-saw cue (ok ls) r s e f = (ls, refl, cc)
+measured-saw cue (refuse m) r s e f = never (cc)
+
+-- ---- `parse_idx`
+module _ (text : List ℕ) (starts : List ℤ) (positions : List ℕ) (room : ℕ) (short : room ≡ min (length starts) (length positions))
+    (r : Measured) (now : List ℕ) (told : MeasuredAs 0 first-palette (textIn (some room) text) r now) where
+  same : textIn (some room) text ≡ linesWith starts positions text
+  same = ap (λ (n : ℕ). textIn (some n) text) short
+
+  pub idx-refused : (n : ℕ) → r ≡ measured.Refused n → (a : IdxAnswer) → a ≡ idxAnswer (refuse n) → IdxRead text starts positions a starts positions
+  unfolding cuesOf
+  idx-refused n e a f =
+      let q : linesWith starts positions text ≡ refuse n = sym same ∙ measured-refused 0 (textIn (some room) text) r n (told .says) e in
+      record { answer = f ∙ ap idxAnswer (sym q); stored = record { starts-are = rw q; positions-are = rw q } }
+
+  module _ (s : Seen) (e : r ≡ measured.Saw s) where
+    lines : (ls : List Said) × (textIn (some room) text ≡ ok ls) × (s ≡ seeAll 0 nothing-seen ls)
+    lines = measured-saw 0 (textIn (some room) text) r s (told .says) e
+
+    pub idx-is-ok : IsOk (linesWith starts positions text)
+    idx-is-ok = subst (λ (x : Res (List Said)). IsOk x) (sym (sym same ∙ lines .1)) tt
+
+    pub idx-accepted : (a : IdxAnswer) → ((ls : List Said) (cue : ℕ) → s ≡ seeAll cue nothing-seen ls → now ≡ paletteOf ls → a ≡ idxAnswer (ok ls))
+        → (starts′ : List ℤ) (positions′ : List ℕ) → CuesStored (linesWith starts positions text) starts positions starts′ positions′
+        → IdxRead text starts positions a starts′ positions′
+    idx-accepted a f starts′ positions′ h =
+        record { answer = f (lines .0) 0 (lines .2) (told .palette (lines .0) (lines .1)) ∙ ap idxAnswer (sym (sym same ∙ lines .1)); stored = h }
+
+-- ---- `pick_cue`
+module _ (text : List ℕ) (cue room : ℕ) (large : length text < room) (r : Measured) (now : List ℕ) (told : MeasuredAs cue first-palette (textIn (some room) text) r now) where
+  open-text : textIn (some room) text ≡ textOf text
+  open-text = text-open text room large
+
+  pub cue-refused : (n : ℕ) → r ≡ measured.Refused n → (a : CueAnswer) → a ≡ cueAnswer (refuse n) → a ≡ cueAnswer (pickOf (textOf text) cue)
+  unfolding pickOf
+  cue-refused n e a f =
+      let q : textOf text ≡ refuse n = sym open-text ∙ measured-refused cue (textIn (some room) text) r n (told .says) e in
+      f ∙ rw q
+
+  pub cue-picked : (s : Seen) → r ≡ measured.Saw s → (a : CueAnswer) → ((ls : List Said) → s ≡ seeAll cue nothing-seen ls → now ≡ paletteOf ls → a ≡ cueAnswer (pickOf (ok ls) cue))
+      → a ≡ cueAnswer (pickOf (textOf text) cue)
+  cue-picked s e a f =
+      let w = measured-saw cue (textIn (some room) text) r s (told .says) e in
+      f (w .0) (w .2) (told .palette (w .0) (w .1)) ∙ ap (λ (x : Res (List Said)). cueAnswer (pickOf x cue)) (sym (sym open-text ∙ w .1))

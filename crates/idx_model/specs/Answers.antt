@@ -1,0 +1,185 @@
+-- What the answers of the code mean, and what the buffers hold after a call (FORMAT 1.9 to 1.12). Assumes nothing: these are definitions.
+use Prim.Native.Nat.{ℕ, _+_, _<_, min}
+use mathlib.Core.Path.{_≡_}
+use mathlib.Core.Bool.{Bool, true, false, cond, _||_}
+use mathlib.Core.Option.{Option, some, none}
+use mathlib.Core.List.{List, [], _∷_, map}
+use lib.Dec.{eqb, ltb}
+use lib.ListN.{length, replicate}
+use lib.Seq.{sets}
+use lib.IntN.{ℤ, pos}
+use Rattle.outcome.specs.Outcome.{Res, ok, refuse, need, andThen, listed, no-cue, short-cues}
+use Rattle.grammar.specs.Index.{Said}
+use Rattle.grammar.specs.IndexCues.{Cue, cuesOf, cueAt, paletteFrom, paletteOf, hasPalette, displaySize, durationOf}
+use Rattle.idx_lines_model.specs.Answers.{Value, sized, coloured, cued, valueOf}
+use Rattle.idx_lines_model.specs.declared.Line.{Line}
+use Rattle.idx_lines_model.specs.declared.Line.the-variants as line
+use Rattle.idx_model.specs.Text.{textIn}
+use Rattle.idx_model.specs.declared.Seen.{Seen}
+use Rattle.idx_model.specs.declared.Measured.{Measured}
+use Rattle.idx_model.specs.declared.Measured.the-variants as measured
+use Rattle.idx_model.specs.declared.IdxAnswer.{IdxAnswer}
+use Rattle.idx_model.specs.declared.CueAnswer.{CueAnswer}
+
+-- ---- What was seen so far, on the way to a cue
+abbrev pub nothing-seen : Seen
+nothing-seen = record { cues = 0; width = 0; height = 0; «has_palette» = false; start = pos 0; position = 0; next = pos 0 }
+
+abbrev pub seeSize : Seen → ℕ → ℕ → Seen
+seeSize s w h =
+    record { cues = s .cues; width = w; height = h; «has_palette» = s .«has_palette»; start = s .start; position = s .position; next = s .next }
+
+abbrev pub seePalette : Seen → Bool → Seen
+seePalette s any =
+    record {
+      cues = s .cues;
+      width = s .width;
+      height = s .height;
+      «has_palette» = any || s .«has_palette»;
+      start = s .start;
+      position = s .position;
+      next = s .next;
+    }
+
+-- a cue with this start and position: it is the one looked for, or the next one
+abbrev pub seeCue : ℕ → Seen → ℤ → ℕ → Seen
+seeCue cue s z v =
+    record {
+      cues = s .cues + 1;
+      width = s .width;
+      height = s .height;
+      «has_palette» = s .«has_palette»;
+      start = cond (eqb (s .cues) cue) z (s .start);
+      position = cond (eqb (s .cues) cue) v (s .position);
+      next = cond (eqb (s .cues) (cue + 1)) z (s .next);
+    }
+
+abbrev pub seeValue : ℕ → Seen → Value → Seen
+seeValue cue s (sized w h) = seeSize s w h
+seeValue cue s (coloured any) = seePalette s any
+seeValue cue s (cued z v) = seeCue cue s z v
+
+unfoldable pub seeAll : ℕ → Seen → List Said → Seen
+seeAll cue s [] = s
+seeAll cue s (l ∷ ls) = seeAll cue (seeValue cue s (valueOf l)) ls
+
+-- after one more line: refused, or seen
+abbrev pub seeLine : ℕ → ℕ → Seen → Res (Option Value) → Measured
+seeLine cue room s (refuse n) = measured.Refused n
+seeLine cue room s (ok none) = measured.Saw s
+seeLine cue room s (ok (some (sized w h))) = measured.Saw (seeSize s w h)
+seeLine cue room s (ok (some (coloured any))) = measured.Saw (seePalette s any)
+seeLine cue room s (ok (some (cued z v))) = cond (ltb (s .cues) room) (measured.Saw (seeCue cue s z v)) (measured.Refused short-cues)
+
+abbrev pub measuredOf : ℕ → Seen → Res (List Said) → Measured
+measuredOf cue s (ok ls) = measured.Saw (seeAll cue s ls)
+measuredOf cue s (refuse n) = measured.Refused n
+
+-- what measuring leaves: the answer, and the palette of an accepted text
+pub record MeasuredAs (cue : ℕ) (was : List ℕ) (lines : Res (List Said)) (r : Measured) (now : List ℕ) : Type 0 where
+  pub says : r ≡ measuredOf cue nothing-seen lines
+  pub palette : (ls : List Said) → lines ≡ ok ls → now ≡ paletteFrom was ls
+
+-- ---- Cues in the lent buffers
+abbrev pub startsOf : List Said → List ℤ
+startsOf ls = map (λ (c : Cue). c .start) (cuesOf ls)
+
+abbrev pub positionsOf : List Said → List ℕ
+positionsOf ls = map (λ (c : Cue). c .position) (cuesOf ls)
+
+-- a line that adds a cue has room in both
+unfoldable pub CueFits : Line → ℕ → ℕ → ℕ → Type 0
+CueFits (line.Refused k) n a b = Unit {0}
+CueFits line.Nothing n a b = Unit {0}
+CueFits (line.Sized w h) n a b = Unit {0}
+CueFits (line.Coloured any) n a b = Unit {0}
+CueFits (line.Cue z v) n a b = (n < a) × (n < b)
+
+abbrev pub lineStarts : Line → List ℤ
+lineStarts (line.Refused k) = []
+lineStarts line.Nothing = []
+lineStarts (line.Sized w h) = []
+lineStarts (line.Coloured any) = []
+lineStarts (line.Cue z v) = z ∷ []
+
+abbrev pub linePositions : Line → List ℕ
+linePositions (line.Refused k) = []
+linePositions line.Nothing = []
+linePositions (line.Sized w h) = []
+linePositions (line.Coloured any) = []
+linePositions (line.Cue z v) = v ∷ []
+
+-- a line's cue, stored as cue n
+pub record CueStored (l : Line) (n : ℕ) (starts : List ℤ) (positions : List ℕ) (r : ℕ) (starts′ : List ℤ) (positions′ : List ℕ) : Type 0 where
+  pub next : r ≡ n + length (lineStarts l)
+  pub starts-are : starts′ ≡ sets starts n (lineStarts l)
+  pub positions-are : positions′ ≡ sets positions n (linePositions l)
+
+-- the cues of listed lines, stored
+pub record CuesStored (lines : Res (List Said)) (starts : List ℤ) (positions : List ℕ) (starts′ : List ℤ) (positions′ : List ℕ) : Type 0 where
+  pub starts-are : starts′ ≡ sets starts 0 (startsOf (listed lines))
+  pub positions-are : positions′ ≡ sets positions 0 (positionsOf (listed lines))
+
+-- ---- The whole text
+
+-- black
+abbrev pub no-colours : List ℕ
+no-colours = replicate 48 0
+
+-- size, palette and the number of cues; 0 beside a refusal
+unfoldable pub idxAnswer : Res (List Said) → IdxAnswer
+idxAnswer (refuse n) = record { refused = n; width = 0; height = 0; «has_palette» = false; palette = no-colours; cues = 0 }
+idxAnswer (ok ls) =
+    record {
+      refused = 0;
+      width = displaySize ls .width;
+      height = displaySize ls .height;
+      «has_palette» = hasPalette ls;
+      palette = paletteOf ls;
+      cues = length (cuesOf ls);
+    }
+
+-- the lines of a text, with buffers of these lengths
+abbrev pub linesWith : List ℤ → List ℕ → List ℕ → Res (List Said)
+linesWith starts positions text = textIn (some (min (length starts) (length positions))) text
+
+-- the answer, and the front of both buffers; on a refusal both are as found
+pub record IdxRead (text : List ℕ) (starts : List ℤ) (positions : List ℕ) (r : IdxAnswer) (starts′ : List ℤ) (positions′ : List ℕ) : Type 0 where
+  pub answer : r ≡ idxAnswer (linesWith starts positions text)
+  pub stored : CuesStored (linesWith starts positions text) starts positions starts′ positions′
+
+-- ---- One cue
+pub record Picked : Type 0 where
+  pub cue : Cue
+  pub duration : Option ℕ
+  pub palette : List ℕ
+  pub coloured : Bool
+
+-- cue n of the lines, if there is one
+unfoldable pub pickOf : Res (List Said) → ℕ → Res Picked
+pickOf lines n =
+    andThen lines
+    (λ ls. andThen (need no-cue (cueAt (cuesOf ls) n))
+    (λ c. ok (record { cue = c; duration = durationOf (cuesOf ls) n; palette = paletteOf ls; coloured = hasPalette ls })))
+
+abbrev pub given : Option ℕ → Bool
+given none = false
+given (some d) = true
+
+abbrev pub orZero : Option ℕ → ℕ
+orZero none = 0
+orZero (some d) = d
+
+unfoldable pub cueAnswer : Res Picked → CueAnswer
+cueAnswer (refuse n) =
+    record { refused = n; start = pos 0; position = 0; «has_duration» = false; duration = 0; «has_palette» = false; palette = no-colours }
+cueAnswer (ok p) =
+    record {
+      refused = 0;
+      start = p .cue .start;
+      position = p .cue .position;
+      «has_duration» = given (p .duration);
+      duration = orZero (p .duration);
+      «has_palette» = p .coloured;
+      palette = p .palette;
+    }

@@ -1,0 +1,7 @@
+pub mod Grammar
+pub mod Loops
+pub mod Numbers
+pub mod Steps
+pub mod Times
+pub mod Minus
+pub mod Cards

@@ -1,0 +1,31 @@
+-- The sum of a time, each step of which stays in signed 64 bits (FORMAT 1.7). Assumes nothing: these are definitions.
+use mathlib.Core.Bool.{Bool, true, false}
+use Prim.Native.Nat.{_^_}
+use lib.Dec.{ltb}
+use lib.IntN.{ℤ, pos, _+ℤ_, _*ℤ_}
+use lib.Signed.{mag}
+use Rattle.idx_numbers_model.specs.declared.Num.{Num}
+use Rattle.idx_numbers_model.specs.declared.Num.the-variants.{Over, Is}
+
+abbrev pub pick {ℓ} : {A : Type ℓ} → Bool → A → A → A
+pick true a b = a
+pick false a b = b
+
+-- a number where it stays in signed 64 bits
+unfoldable pub checked : ℤ → Num
+checked z = pick (ltb (mag z) (2 ^ 63)) (Is z) Over
+
+abbrev pub andThen : Num → (ℤ → Num) → Num
+andThen Over k = Over
+andThen (Is z) k = k z
+
+-- (((h·60)+m)·60+s)·1,000,000 + ms·1,000, where each step stays in signed 64 bits
+abbrev pub microsOf : ℤ → ℤ → ℤ → ℤ → Num
+microsOf h m s ms =
+    andThen (checked (h *ℤ pos 60))
+    (λ a. andThen (checked (a +ℤ m))
+    (λ b. andThen (checked (b *ℤ pos 60))
+    (λ d. andThen (checked (d +ℤ s))
+    (λ e. andThen (checked (e *ℤ pos 1000000))
+    (λ f. andThen (checked (ms *ℤ pos 1000))
+    (λ g. checked (f +ℤ g)))))))

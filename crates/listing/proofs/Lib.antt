@@ -1,5 +1,0 @@
-pub mod Laws
-pub mod Signed
-pub mod Units
-pub mod Table
-pub mod Claim

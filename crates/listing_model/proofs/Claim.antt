@@ -1,0 +1,100 @@
+-- A cue's line has the values of the grammar's reading for the cue, and is refused where there is none. Assumes nothing.
+use Prim.Native.Nat.{ℕ, _≤_}
+use mathlib.Core.Path.{_≡_, refl, sym, ap, _∙_, subst}
+use mathlib.Core.Option.{some}
+use mathlib.Core.List.{List}
+use lib.Seq.{sets}
+use Rattle.outcome.specs.Outcome.{Res, ok, refuse, IsOk, need, no-cue}
+use Rattle.outcome.proofs.Laws.{andThen-ok, mapRes-ok, need-some}
+use Rattle.grammar.specs.Index.{Said, IsText}
+use Rattle.grammar.specs.IndexCues.{Cue, cuesOf, cueAt, durationOf}
+use Rattle.grammar.specs.Packets.{unitOf, subpicture}
+use Rattle.grammar.specs.Record.{told, delayOf, width, height}
+use Rattle.grammar.specs.Pixels.{codesIn}
+use Rattle.grammar.specs.Reading.{wanted, Reading, IsReading, Shown, startAt, shown}
+use Rattle.idx_model.proofs.Grammar.{text-unique}
+use Rattle.ps_model.specs.Packets.{formAt}
+use Rattle.ps_model.proofs.Grammar.{form-iff}
+use Rattle.spu_model.proofs.Grammar.{unit-iff}
+use Rattle.listing_model.specs.Lines.{refusedLine}
+use Rattle.listing_model.specs.Title.{shownAt, unitFor, shownFor, lineOf, cueLine}
+use Rattle.listing_model.specs.Answers.{Put, Written, Exactly}
+use Rattle.listing_model.proofs.Laws.{written}
+
+module _ (cs : List Cue) (f : List ℕ) (n : ℕ) where
+  -- what a reading shows is shown
+  module _ (text : List ℕ) (x : Reading) (e : cuesOf (x .lines) ≡ cs) (h : IsReading text f (wanted n) x) where
+    cue-is : cueAt cs n ≡ some (h .at)
+    cue-is = (λ i. cueAt (sym e i) (sym (h .cue-is) i)) ∙ h .listed
+
+    unit-is : unitFor f (h .at .position) ≡ ok (x .unit)
+    unfolding unitFor
+    unit-is = rw (form-iff subpicture f (h .at .position) (x .form) .1 (h .before-end, h .form-is)) (unit-iff (unitOf (x .form)) (x .unit) .1 (h .unit-is))
+
+    shown-is : shownAt (h .at .start) (durationOf cs n) (x .unit) ≡ shown x
+    unfolding shown
+    shown-is =
+        let t = told (x .unit .blocks) in
+        let z : h .at .start ≡ startAt (cueAt (cuesOf (x .lines)) (x .cue)) = ap startAt (sym (h .listed)) in
+        λ i. record {
+          start = z i;
+          duration = durationOf (sym e i) (sym (h .cue-is) i);
+          start-delay = delayOf (t .starts);
+          stop-delay = delayOf (t .stops);
+          x1 = t .at .x1;
+          y1 = t .at .y1;
+          width = width t;
+          height = height t;
+          codes = codesIn (x .unit .rows);
+        }
+
+    pub reading-shown : shownFor cs f n ≡ ok (shown x)
+    unfolding shownFor
+    reading-shown = rw (cue-is, unit-is) (ap ok shown-is)
+
+  -- and what is shown is a reading's
+  pub shown-reading : (text : List ℕ) (ls : List Said) → IsText text ls → cuesOf ls ≡ cs → (s : Shown) → shownFor cs f n ≡ ok s → (x : Reading) × IsReading text f (wanted n) x
+  unfolding shownFor unitFor
+  shown-reading text ls t e s q =
+      let a = andThen-ok (need no-cue (cueAt cs n)) _ q in
+      let c = a .0 in
+      let b = mapRes-ok (shownAt (c .start) (durationOf cs n)) (unitFor f (c .position)) (a .2) in
+      let m = andThen-ok (formAt subpicture f (c .position)) _ (b .1) in
+      let i = form-iff subpicture f (c .position) (m .0) .0 (m .1) in (
+        record { lines = ls; cue = n; form = m .0; unit = b .0 },
+        record {
+          text-is = t;
+          cue-is = refl;
+          at = c;
+          listed = ap (λ (l : List Cue). cueAt l n) e ∙ need-some no-cue (cueAt cs n) (a .1);
+          before-end = i .0;
+          form-is = i .1;
+          unit-is = unit-iff (unitOf (m .0)) (b .0) .0 (m .2);
+        },
+      )
+
+  pub claim : (l l′ : List ℕ) (r : ℕ) → Written (cueLine cs f n) l r l′ → Exactly cs f n l l′
+  claim l l′ r w =
+      record {
+        exactly-when = λ text ls t e. (
+          given text ls t e (shownFor cs f n) refl,
+          λ y. subst IsOk (sym (reading-shown text (y .0) (ap cuesOf (text-unique text (y .0 .lines) ls (y .1 .text-is) t) ∙ e) (y .1))) tt,
+        );
+        same = λ text x e h. w .stored ∙ ap (λ (s : Res Shown). sets l 0 (lineOf n s)) (reading-shown text x e h);
+        refused = λ text ls t e m. none-given text ls t e m (shownFor cs f n) refl;
+      }
+    where
+      none-given : (text : List ℕ) (ls : List Said) → IsText text ls → cuesOf ls ≡ cs → ((x : Reading) → IsReading text f (wanted n) x → ⊥)
+          → (o : Res Shown) → shownFor cs f n ≡ o → (k : ℕ) × (l′ ≡ sets l 0 (refusedLine n k))
+      none-given text ls t e m (ok s) q = let y = shown-reading text ls t e s q in absurd (m (y .0) (y .1))
+      none-given text ls t e m (refuse k) q = (k, w .stored ∙ ap (λ (s : Res Shown). sets l 0 (lineOf n s)) q)
+
+      given : (text : List ℕ) (ls : List Said) → IsText text ls → cuesOf ls ≡ cs → (o : Res Shown) → shownFor cs f n ≡ o → IsOk o → (x : Reading) × IsReading text f (wanted n) x
+      given text ls t e (ok s) q y = shown-reading text ls t e s q
+      given text ls t e (refuse k) q y = absurd y
+
+  -- a whole line
+  pub listed-line : {k r : ℕ} {l l′ : List ℕ} (a : List ℕ) → k ≤ 256 → a ≡ cueLine cs f n → Put k l 0 a r l′ → Written (cueLine cs f n) l r l′ × Exactly cs f n l l′
+  listed-line {k} {r} {l} {l′} a i e p =
+      let w : Written (cueLine cs f n) l r l′ = written i (subst (λ (s : List ℕ). Put k l 0 s r l′) e p) in
+      (w, claim l l′ r w)

@@ -1,4 +1,0 @@
-pub mod Laws
-pub mod Body
-pub mod Shift
-pub mod Read

@@ -1,4 +1,0 @@
-pub mod Laws
-pub mod Join
-pub mod Unit
-pub mod Claim

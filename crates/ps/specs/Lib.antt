@@ -1,4 +1,0 @@
-pub mod Packets
-pub mod Unit
-pub mod Answers
-pub mod Claim

@@ -1,0 +1,10 @@
+pub mod PacketGrammar
+pub mod Body
+pub mod Shift
+pub mod Read
+pub mod Grammar
+pub mod Loops
+pub mod Unit
+pub mod Refusals
+pub mod Claim
+pub mod Cards

@@ -1,0 +1,135 @@
+-- The body of a PES is the same in the packet's own bytes and in the file. Assumes nothing.
+use Prim.Native.Nat.{ℕ, _+_, _-_, _/_, _≤_, _<_}
+use native.Mathlib.Nat.{add-zero}
+use native.Mathlib.Omega.{arith}
+use mathlib.Core.Path.{_≡_, refl, sym, ap, _∙_, subst}
+use mathlib.Core.Bool.{true, false}
+use mathlib.Core.Logic.{_⊎_, inl, inr, ⊎-elim}
+use mathlib.Core.List.{List}
+use lib.ListN.{take}
+use lib.Seq.{slice, getD-drop, getD-take}
+use lib.Dec.{eqb, leb, ltb}
+use Rattle.outcome.specs.Outcome.{Res, ok, refuse, check, mapRes, no-unit}
+use Rattle.outcome.proofs.Laws.{ok-not-refuse, check-refuse, andThen-refuse, either}
+use Rattle.grammar.specs.Bytes.{byte}
+use Rattle.grammar.specs.Packets.{bufferSize, stampSize, Stuffing, Header2, Header1, IsBody}
+use Rattle.ps_model.specs.OnePacket.{leading, stampAt, header1At, headerAt, bodyAt}
+use Rattle.ps_model.proofs.PacketGrammar.{body-iff}
+
+-- the n bytes of s from c on are those of f from a on
+pub record Alike (s : List ℕ) (c : ℕ) (f : List ℕ) (a n : ℕ) : Type 0 where
+  pub each : (i : ℕ) → i < n → byte s (c + i) ≡ byte f (a + i)
+
+alike-back : (s : List ℕ) (c : ℕ) (f : List ℕ) (a n : ℕ) → Alike s c f a n → Alike f a s c n
+alike-back s c f a n h = record { each = λ i l. sym (h .each i l) }
+
+pub byte-slice : (f : List ℕ) (a e i : ℕ) → a + i < e → byte (slice a e f) i ≡ byte f (a + i)
+byte-slice f a e i l = getD-drop a (take e f) i 0 ∙ getD-take e f (a + i) 0 l
+
+slice-alike : (f : List ℕ) (a e : ℕ) → Alike (slice a e f) 0 f a (e - a)
+slice-alike f a e = record { each = λ i l. let z : 0 + i ≡ i = omega arith in rw z (byte-slice f a e i (omega arith)) }
+
+-- ---- Bodies move with their bytes
+
+module _ (s : List ℕ) (c : ℕ) (f : List ℕ) (a n : ℕ) (h : Alike s c f a n) where
+  first : 0 < n → byte s c ≡ byte f a
+  first l = let g = h .each 0 l in rw (add-zero, add-zero) at g
+
+  stuffing-moves : (k : ℕ) → k < n → Stuffing s c k → Stuffing f a k
+  stuffing-moves k l t =
+      record {
+        most = t .most;
+        each = λ i m. sym (h .each i (omega arith)) ∙ t .each i m;
+        no-more = λ m q. t .no-more m (h .each k l ∙ q);
+      }
+
+  header2-moves : (b : ℕ) → Header2 s c (c + n) (c + b) → Header2 f a (a + n) (a + b)
+  header2-moves b t =
+      let three = t .three in
+      let x = first (omega arith) in
+      let y = h .each 2 (omega arith) in
+      let z = t .body in
+      record { bits = rw (← x) (t .bits); three = omega arith; body = omega arith }
+
+  header1-moves : (b : ℕ) → Header1 s c (c + n) (c + b) → Header1 f a (a + n) (a + b)
+  header1-moves b t =
+      let l = t .size-byte in
+      let k = t .stamp-byte in
+      let g = t .stamp-is in
+      let p : c + (t .stamp - c) ≡ t .stamp = omega arith in
+      let x = first (omega arith) in
+      let y = ap bufferSize (h .each (t .count) (omega arith)) in
+      let w : byte s (t .stamp) ≡ byte f (a + (t .stamp - c)) = ap (byte s) (sym p) ∙ h .each (t .stamp - c) (omega arith) in
+      let v = ap stampSize w in
+      let d = t .body in
+      record {
+        bits = rw (← x) (t .bits);
+        count = t .count;
+        stuffing = stuffing-moves (t .count) (omega arith) (t .stuffing);
+        size-byte = omega arith;
+        stamp = a + (t .stamp - c);
+        stamp-is = omega arith;
+        stamp-byte = omega arith;
+        body = omega arith;
+      }
+
+  body-moves : (b : ℕ) → IsBody s c (c + n) (c + b) → IsBody f a (a + n) (a + b)
+  body-moves b t =
+      let l = t .some-byte in
+      let w = t .within in
+      record { some-byte = omega arith; within = omega arith; header = ⊎-elim (λ x. inl (header2-moves b x)) (λ x. inr (header1-moves b x)) (t .header) }
+
+pub body-after : (f : List ℕ) (a e b : ℕ) → IsBody f a e b → a ≤ b
+body-after f a e b t = ⊎-elim (λ x. let y = x .body in omega arith) (λ x. let y = x .body in let z = x .stamp-is in omega arith) (t .header)
+
+-- ---- A body is refused with 13
+
+pub body-refuses : (f : List ℕ) (a e n : ℕ) → bodyAt f a e ≡ refuse n → n ≡ no-unit
+unfolding bodyAt headerAt header1At
+body-refuses f a e n q =
+    ⊎-elim (λ x. x)
+    (λ x. ⊎-elim header (λ y. ⊎-elim (λ z. z) (λ z. ok-not-refuse (sym z)) (check-refuse (leb (y .0) e) no-unit (ok (y .0)) (y .2))) (andThen-refuse (headerAt f a e) (λ (b : ℕ). check (leb b e) no-unit (ok b)) x))
+    (check-refuse (ltb a e) no-unit _ q)
+  where
+    header : headerAt f a e ≡ refuse n → n ≡ no-unit
+    header r = ⊎-elim two one (either (eqb (byte f a / 64) 2))
+      where
+        two : eqb (byte f a / 64) 2 ≡ true → n ≡ no-unit
+        two t = ⊎-elim (λ z. z) (λ z. ok-not-refuse (sym z)) (check-refuse (leb (a + 3) e) no-unit _ (rw t at r))
+
+        one : eqb (byte f a / 64) 2 ≡ false → n ≡ no-unit
+        one t =
+            ⊎-elim (λ z. z)
+            (λ z. ⊎-elim (λ y. y) (λ y. ok-not-refuse (sym y)) (check-refuse (ltb (stampAt f a (leading 16 f a)) e) no-unit _ z))
+            (check-refuse (ltb (a + leading 16 f a) e) no-unit _ (rw t at r))
+
+-- ---- The body by places of the file
+
+module _ (f : List ℕ) (a e : ℕ) (h : a ≤ e) where
+  pub body-file : bodyAt f a e ≡ mapRes (λ (b : ℕ). a + b) (bodyAt (slice a e f) 0 (e - a))
+  body-file = go (bodyAt (slice a e f) 0 (e - a)) refl
+    where
+      whole : a + (e - a) ≡ e
+      whole = omega arith
+
+      zero-plus : (n : ℕ) → 0 + n ≡ n
+      zero-plus n = omega arith
+
+      go : (r : Res ℕ) → bodyAt (slice a e f) 0 (e - a) ≡ r → bodyAt f a e ≡ mapRes (λ (b : ℕ). a + b) r
+      go (ok b) q =
+          let i = body-iff (slice a e f) 0 (e - a) b .0 q in
+          let j : IsBody (slice a e f) 0 (0 + (e - a)) (0 + b) = rw (zero-plus (e - a), zero-plus b) i in
+          let k = body-moves (slice a e f) 0 f a (e - a) (slice-alike f a e) b j in
+          body-iff f a e (a + b) .1 (subst (λ (x : ℕ). IsBody f a x (a + b)) whole k)
+      go (refuse n) q = back (bodyAt f a e) refl
+        where
+          back : (r : Res ℕ) → bodyAt f a e ≡ r → r ≡ refuse n
+          back (refuse m) p = ap refuse (body-refuses f a e m p ∙ sym (body-refuses (slice a e f) 0 (e - a) n q))
+          back (ok b) p =
+              let i = body-iff f a e b .0 p in
+              let l = body-after f a e b i in
+              let y : a + (b - a) ≡ b = omega arith in
+              let j : IsBody f a (a + (e - a)) (a + (b - a)) = rw (whole, y) i in
+              let k = body-moves f a (slice a e f) 0 (e - a) (alike-back (slice a e f) 0 f a (e - a) (slice-alike f a e)) (b - a) j in
+              let m : IsBody (slice a e f) 0 (e - a) (b - a) = rw (zero-plus (e - a), zero-plus (b - a)) at k in
+              ok-not-refuse (sym q ∙ body-iff (slice a e f) 0 (e - a) (b - a) .1 m)

@@ -1,4 +1,0 @@
-pub mod Field
-pub mod Kept
-pub mod Answers
-pub mod Claim

@@ -1,0 +1,11 @@
+pub mod Nibbles
+pub mod Grammar
+pub mod CodeLoops
+pub mod Loops
+pub mod Kept
+pub mod Refusals
+pub mod Claim
+pub mod Part
+pub mod Weave
+pub mod Both
+pub mod Cards

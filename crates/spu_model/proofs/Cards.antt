@@ -1,0 +1,37 @@
+-- Closed inputs on which each edit of this crate's definitions gives another value. Assumes nothing.
+use mathlib.Core.Path.{_≡_, refl}
+use mathlib.Core.Bool.{false}
+use mathlib.Core.List.{[], _∷_}
+use Rattle.outcome.specs.Outcome.{ok, refuse, refusalOf, short-pixels}
+use Rattle.outcome.specs.Lists.{listFuel, listFrom}
+use Rattle.grammar.specs.Bytes.{word, nibble, nibbles}
+use Rattle.grammar.specs.Rows.{code, paints, afterCodes, align}
+use Rattle.grammar.specs.Pixels.{codesIn}
+use Rattle.grammar.specs.Record.{told, untold, tellBlock, tellChain}
+use Rattle.grammar.specs.Picture.{topEnd}
+use Rattle.rle_model.specs.Codes.{codeFrom, codeAt, rowAt, fieldAt}
+use Rattle.rle_model.specs.Field.{rowsFrom}
+use Rattle.rle_model.specs.Fields.{weave, lowerAt, fieldsAt}
+use Rattle.control_model.specs.Chain.{plainAt, changeAt, orderAt, commandAt, commandsAt, blockAt, blocksAt, headFits, chainAt, controlAt}
+use Rattle.control_model.specs.Answers.{spuOf}
+use Rattle.spu_model.specs.Unit.{hasBottom, rowsAt, unitAt}
+use Rattle.spu_model.specs.Answers.{spuAnswer, unitMap}
+use Rattle.spu_model.specs.declared.SpuAnswer.the-variants as spu-answer
+
+-- no bottom field at offset 0
+pub no-bottom : hasBottom 9 0 ≡ false
+no-bottom = refl
+
+-- one row of two codes
+pub two-codes : spuAnswer (ok (record { blocks = []; rows = (code 0 1 5 ∷ code 1 1 6 ∷ []) ∷ [] })) ≡ spu-answer.Shows (spuOf (told []) 2)
+unfolding codesIn
+two-codes = refl
+
+-- the unit `00 04 00 04` is none that is refused
+pub least-unit : refusalOf (unitAt (0x00 ∷ 0x04 ∷ 0x00 ∷ 0x04 ∷ [])) ≡ 0
+unfolding unitAt rowsAt fieldsAt lowerAt fieldAt rowAt codeAt codeFrom rowsFrom weave paints afterCodes align topEnd listFrom listFuel word nibbles nibble untold tellBlock tellChain plainAt changeAt orderAt commandAt commandsAt blockAt blocksAt headFits chainAt controlAt
+least-unit = refl
+
+-- a refusal stores nothing
+pub as-found : unitMap (refuse short-pixels) ≡ []
+as-found = refl

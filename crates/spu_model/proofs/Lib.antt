@@ -1,0 +1,5 @@
+pub mod Loops
+pub mod Grammar
+pub mod Claim
+pub mod Refusals
+pub mod Cards

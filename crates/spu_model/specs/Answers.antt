@@ -1,0 +1,58 @@
+-- What each answer means, and what the map and the words hold afterwards (FORMAT 3.6, 4.5, 5.8, 5.9). Assumes nothing: these are definitions.
+use Prim.Native.Nat.{ℕ}
+use mathlib.Core.Path.{_≡_}
+use mathlib.Core.List.{List, []}
+use lib.ListN.{length}
+use lib.Seq.{sets}
+use Rattle.outcome.specs.Outcome.{Res, ok, refuse, listed}
+use Rattle.grammar.specs.Bands.{bandWords}
+use Rattle.grammar.specs.Pixels.{indexMap, codesIn}
+use Rattle.grammar.specs.Control.{lengthWord, controlWord}
+use Rattle.grammar.specs.Record.{Told, told, width, height}
+use Rattle.grammar.specs.Picture.{topEnd, ListedUnit}
+use Rattle.control_model.specs.Answers.{spuOf}
+use Rattle.rle_model.specs.Answers.{fieldAnswer}
+use Rattle.rle_model.specs.declared.FieldAnswer.{FieldAnswer}
+use Rattle.spu_model.specs.Unit.{hasBottom, rowsAt, unitIn}
+use Rattle.spu_model.specs.declared.Layout.{Layout}
+use Rattle.spu_model.specs.declared.SpuAnswer.{SpuAnswer}
+use Rattle.spu_model.specs.declared.SpuAnswer.the-variants as spu-answer
+
+-- the layout of a unit u whose commands told t (FORMAT 3.7, 3.8)
+abbrev pub layoutOf : List ℕ → Told → Layout
+layoutOf u t =
+    record {
+      width = width t;
+      height = height t;
+      end = lengthWord u;
+      control = controlWord u;
+      top = t .fields .top;
+      «top_end» = topEnd (controlWord u) (t .fields);
+      bottom = t .fields .bottom;
+      shown = hasBottom (controlWord u) (t .fields .bottom);
+    }
+
+-- the record of what the blocks tell, with the number of codes that the rows list
+abbrev pub spuAnswer : Res ListedUnit → SpuAnswer
+spuAnswer (ok l) = spu-answer.Shows (spuOf (told (l .blocks)) (codesIn (l .rows)))
+spuAnswer (refuse n) = spu-answer.Refused n
+
+-- the index map and the words of what is listed; none on a refusal
+abbrev pub unitMap : Res ListedUnit → List ℕ
+unitMap (ok l) = indexMap (width (told (l .blocks))) (l .rows)
+unitMap (refuse n) = []
+
+abbrev pub unitBands : Res ListedUnit → List ℕ
+unitBands (ok l) = bandWords (told (l .blocks) .bands)
+unitBands (refuse n) = []
+
+-- what decoding the rows of a unit u whose commands told t leaves
+pub record RowsDecoded (u : List ℕ) (t : Told) (px : List ℕ) (r : FieldAnswer) (px′ : List ℕ) : Type 0 where
+  pub answer : r ≡ fieldAnswer (width t) (rowsAt u t)
+  pub pixels : px′ ≡ sets px 0 (indexMap (width t) (listed (rowsAt u t)))
+
+-- what decoding a unit leaves: on a refusal nothing is stored
+pub record Decoded (u px ws : List ℕ) (r : SpuAnswer) (px′ ws′ : List ℕ) : Type 0 where
+  pub answer : r ≡ spuAnswer (unitIn u (length px) (length ws))
+  pub pixels : px′ ≡ sets px 0 (unitMap (unitIn u (length px) (length ws)))
+  pub words : ws′ ≡ sets ws 0 (unitBands (unitIn u (length px) (length ws)))

@@ -1,0 +1,180 @@
+-- The call, step by step: a cue that is not there, a unit that is not found, and a unit that is. Assumes nothing.
+use Prim.Native.Nat.{ℕ, _-_}
+use native.Mathlib.Omega.{arith}
+use mathlib.Core.Path.{_≡_, refl, sym, ap, _∙_, subst}
+use mathlib.Core.Option.{Option, some, none}
+use mathlib.Core.List.{List}
+use lib.ListN.{length}
+use lib.Seq.{sets}
+use Rattle.outcome.specs.Outcome.{Res, ok, refuse, mapRes, no-cue}
+use Rattle.grammar.specs.Index.{Said}
+use Rattle.grammar.specs.IndexCues.{Cue, cuesOf, cueAt}
+use Rattle.grammar.specs.Packets.{Form, bare, packets, unitOf, subpicture}
+use Rattle.grammar.specs.Record.{told}
+use Rattle.grammar.specs.Picture.{ListedUnit}
+use Rattle.grammar.specs.Pixels.{codesIn}
+use Rattle.grammar.specs.Reading.{Wanted, Reading, startAt, shown, mapOf, wordsOf, unitCanvas, canvasOf}
+use Rattle.control_model.specs.Answers.{spuOf}
+use Rattle.idx_model.specs.Text.{textOf}
+use Rattle.idx_model.specs.Answers.{pickOf, cueAnswer}
+use Rattle.idx_model.specs.Claim.{GivesCue}
+use Rattle.idx_model.specs.declared.CueAnswer.{CueAnswer}
+use Rattle.idx_model.proofs.Claim.{picked, has}
+use Rattle.idx_model.proofs.Picks.{cue-in}
+use Rattle.ps_model.specs.Unit.{unitAt}
+use Rattle.ps_model.specs.Answers.{formStored, unitGiven, unitStored, unitPart, Extracted}
+use Rattle.ps_model.specs.declared.UnitAnswer.{UnitAnswer}
+use Rattle.ps_model.specs.declared.UnitAnswer.the-variants as unit-answer
+use Rattle.ps_model.proofs.Grammar.{form-iff}
+use Rattle.ps_model.proofs.Claim.{unit-sound, unit-there}
+use Rattle.spu_model.specs.Answers.{spuAnswer, unitMap, unitBands}
+use Rattle.grammar.specs.Reading.{wanted}
+use Rattle.vobsub_model.specs.Call.{Lent, lent, Found, found, foundFor, canvasIn, reading, readingIn}
+use Rattle.vobsub_model.specs.Answers.{canvasStored, shownOf, paintsOf, FoundPainted, shownGiven, canvasAnswer, scratchOf, pixelsOf, bandsOf, paintedOf, CuePainted}
+use Rattle.vobsub_model.specs.Claim.{Exactly}
+use Rattle.vobsub_model.proofs.Claim.{claim}
+use Rattle.vobsub_model.specs.declared.Shown.{Shown}
+use Rattle.vobsub_model.specs.declared.CanvasAnswer.{CanvasAnswer}
+use Rattle.vobsub_model.specs.declared.CanvasAnswer.the-variants as canvas-answer
+
+found-at : (text file : List ℕ) (cue n : ℕ) (ls : List Said) (at : Cue) (p : ℕ) → textOf text ≡ ok ls → cueAt (cuesOf ls) cue ≡ some at → p ≡ at .position
+    → foundFor text file (wanted cue) n ≡ mapRes (found ls) (unitAt subpicture file p n)
+unfolding foundFor
+found-at text file cue n ls at p e f g = rw (e, f, g)
+
+module _ (text file : List ℕ) (cue : ℕ) (s px ws cv : List ℕ) where
+  abbrev before : Lent
+  before = lent s px ws cv
+
+  -- a unit that is not found: nothing is stored
+  refused-all : (n : ℕ) → foundFor text file (wanted cue) (length s) ≡ refuse n → CuePainted text file (wanted cue) before (canvas-answer.Refused n) before
+  unfolding readingIn
+  refused-all n e = record { answer = rw e; in-scratch = rw e; in-pixels = rw e; in-words = rw e; in-canvas = rw e }
+
+  module _ (c : CueAnswer) (e : c ≡ cueAnswer (pickOf (textOf text) cue)) where
+    -- the cue is not there
+    pub cue-refused : (c .refused ≡ 0 → ⊥) → CuePainted text file (wanted cue) before (canvas-answer.Refused (c .refused)) before
+    unfolding pickOf cueAnswer foundFor
+    cue-refused h = go (textOf text) refl
+      where
+        with-cue : (ls : List Said) → textOf text ≡ ok ls → (o : Option Cue) → cueAt (cuesOf ls) cue ≡ o → CuePainted text file (wanted cue) before (canvas-answer.Refused (c .refused)) before
+        with-cue ls q (some a) f = absurd (h (picked text cue c e ls q a f .0))
+        with-cue ls q none f =
+            let p : pickOf (textOf text) cue ≡ refuse no-cue = rw (q, f) in
+            let z : c .refused ≡ no-cue = ap (λ (a : CueAnswer). a .refused) (e ∙ ap cueAnswer p) in
+            rw z (refused-all no-cue (rw (q, f)))
+
+        go : (r : Res (List Said)) → textOf text ≡ r → CuePainted text file (wanted cue) before (canvas-answer.Refused (c .refused)) before
+        go (refuse n) q =
+            let p : pickOf (textOf text) cue ≡ refuse n = rw q in
+            let z : c .refused ≡ n = ap (λ (a : CueAnswer). a .refused) (e ∙ ap cueAnswer p) in
+            rw z (refused-all n (rw q))
+        go (ok ls) q = with-cue ls q (cueAt (cuesOf ls) cue) refl
+
+    -- the cue is there
+    module _ (h : c .refused ≡ 0) where
+      abbrev ls : List Said
+      ls = has text cue c e (textOf text) refl h .0
+
+      lines-are : textOf text ≡ ok ls
+      lines-are = has text cue c e (textOf text) refl h .1
+
+      abbrev at : Cue
+      at = cue-in (cuesOf ls) cue (has text cue c e (textOf text) refl h .2) .0
+
+      cue-is : cueAt (cuesOf ls) cue ≡ some at
+      cue-is = cue-in (cuesOf ls) cue (has text cue c e (textOf text) refl h .2) .1
+
+      gives : GivesCue ls cue at c
+      gives = picked text cue c e ls lines-are at cue-is .1
+
+      found-is : foundFor text file (wanted cue) (length s) ≡ mapRes (found ls) (unitAt subpicture file (c .position) (length s))
+      found-is = found-at text file cue (length s) ls at (c .position) lines-are cue-is (gives .position)
+
+      -- and its unit is not found
+      pub unit-none : (r : UnitAnswer) (n : ℕ) (s′ : List ℕ) → Extracted file (c .position) s r s′ → r ≡ unit-answer.Refused n
+          → CuePainted text file (wanted cue) before (canvas-answer.Refused n) (lent s′ px ws cv)
+      unit-none r n s′ d q = go (unitAt subpicture file (c .position) (length s)) refl (sym q ∙ d .answer) (d .scratch)
+        where
+          go : (x : Res Form) → unitAt subpicture file (c .position) (length s) ≡ x → unit-answer.Refused n ≡ unitGiven x → s′ ≡ sets s 0 (unitStored x)
+              → CuePainted text file (wanted cue) before (canvas-answer.Refused n) (lent s′ px ws cv)
+          go (ok (bare u)) f g k = let z : _≡_ {A = ℕ} 0 1 = cc in absurd (omega arith)
+          go (ok (packets ps)) f g k = let z : _≡_ {A = ℕ} 0 1 = cc in absurd (omega arith)
+          go (refuse m) f g k =
+              let z : n ≡ m = cc in
+              subst (λ (l : List ℕ). CuePainted text file (wanted cue) before (canvas-answer.Refused n) (lent l px ws cv)) (sym k)
+              (refused-all n (found-is ∙ ap (mapRes (found ls)) f ∙ ap refuse (sym z)))
+
+      -- what is shown is what the reading shows
+      shown-is : (m : Form) (l : ListedUnit) → shownOf c (spuOf (told (l .blocks)) (codesIn (l .rows))) ≡ shownGiven (shown (reading (wanted cue) (found ls m) l))
+      unfolding shownGiven shown spuOf
+      shown-is m l =
+          let z : c .start ≡ startAt (cueAt (cuesOf ls) cue) = gives .start ∙ ap startAt (sym cue-is) in
+          let t : Shown = shownOf c (spuOf (told (l .blocks)) (codesIn (l .rows))) in
+          λ i. record {
+            start = z i;
+            «has_duration» = gives .lasts i;
+            duration = gives .duration i;
+            «start_delay» = t .«start_delay»;
+            «stop_delay» = t .«stop_delay»;
+            x1 = t .x1;
+            y1 = t .y1;
+            width = t .width;
+            height = t .height;
+            codes = t .codes;
+          }
+
+      module _ (m : Form) (f : unitAt subpicture file (c .position) (length s) ≡ ok m) where
+        reads : readingIn text file (wanted cue) before ≡ mapRes (reading (wanted cue) (found ls m)) (canvasIn (unitOf m) (length px) (length ws) (length cv))
+        unfolding readingIn
+        reads = rw (found-is ∙ ap (mapRes (found ls)) f)
+
+        painted-all : (a : CanvasAnswer) (s′ px′ ws′ cv′ : List ℕ) → s′ ≡ sets s 0 (formStored m) → FoundPainted (unitOf m) c px ws cv a px′ ws′ cv′
+            → CuePainted text file (wanted cue) before a (lent s′ px′ ws′ cv′)
+        unfolding mapOf wordsOf canvasOf
+        painted-all a s′ px′ ws′ cv′ k d =
+            record {
+              answer = d .answer ∙ ap (paintsOf c) (d .painted .answer) ∙ answers (canvasIn (unitOf m) (length px) (length ws) (length cv)) ∙ ap canvasAnswer (sym reads);
+              in-scratch = k ∙ ap (λ (x : Res Found). sets s 0 (scratchOf x)) (sym (found-is ∙ ap (mapRes (found ls)) f));
+              in-pixels = d .painted .pixels ∙ ap (sets px 0) (maps (canvasIn (unitOf m) (length px) (length ws) (length cv))) ∙ ap (λ (x : Res Reading). sets px 0 (pixelsOf x)) (sym reads);
+              in-words = d .painted .words ∙ ap (sets ws 0) (bands (canvasIn (unitOf m) (length px) (length ws) (length cv))) ∙ ap (λ (x : Res Reading). sets ws 0 (bandsOf x)) (sym reads);
+              in-canvas = d .painted .canvas ∙ ap (sets cv 0) (canvases (canvasIn (unitOf m) (length px) (length ws) (length cv))) ∙ ap (λ (x : Res Reading). sets cv 0 (paintedOf x)) (sym reads);
+            }
+          where
+            answers : (x : Res ListedUnit) → paintsOf c (spuAnswer x) ≡ canvasAnswer (mapRes (reading (wanted cue) (found ls m)) x)
+            answers (ok l) = ap canvas-answer.Paints (shown-is m l)
+            answers (refuse n) = refl
+
+            maps : (x : Res ListedUnit) → unitMap x ≡ pixelsOf (mapRes (reading (wanted cue) (found ls m)) x)
+            maps (ok l) = refl
+            maps (refuse n) = refl
+
+            bands : (x : Res ListedUnit) → unitBands x ≡ bandsOf (mapRes (reading (wanted cue) (found ls m)) x)
+            bands (ok l) = refl
+            bands (refuse n) = refl
+
+            canvases : (x : Res ListedUnit) → canvasStored (c .palette) x ≡ paintedOf (mapRes (reading (wanted cue) (found ls m)) x)
+            canvases (ok l) = ap (λ (p : List ℕ). unitCanvas p l) (gives .palette)
+            canvases (refuse n) = refl
+
+      -- its unit is found, and painted
+      pub unit-some : (r : UnitAnswer) (s′ : List ℕ) → Extracted file (c .position) s r s′ → ((n : ℕ) → r ≡ unit-answer.Refused n → ⊥)
+          → (a : CanvasAnswer) (px′ ws′ cv′ : List ℕ) → FoundPainted (unitPart file s′ (c .position) r) c px ws cv a px′ ws′ cv′
+          → CuePainted text file (wanted cue) before a (lent s′ px′ ws′ cv′)
+      unit-some r s′ d o a px′ ws′ cv′ p = go (unitAt subpicture file (c .position) (length s)) refl (d .answer) (d .scratch)
+        where
+          go : (x : Res Form) → unitAt subpicture file (c .position) (length s) ≡ x → r ≡ unitGiven x → s′ ≡ sets s 0 (unitStored x)
+              → CuePainted text file (wanted cue) before a (lent s′ px′ ws′ cv′)
+          go (refuse n) f g k = absurd (o n g)
+          go (ok m) f g k =
+              let t = unit-sound file (c .position) (length s) m f in
+              let i = form-iff subpicture file (c .position) m .0 (t .0) in
+              let u : unitPart file s′ (c .position) r ≡ unitOf m =
+              ap (λ (x : List ℕ). unitPart file x (c .position) r) k
+              ∙ ap (unitPart file (sets s 0 (formStored m)) (c .position)) g
+              ∙ unit-there file (c .position) s m (i .1) (t .1) in
+              painted-all m f a s′ px′ ws′ cv′ k (subst (λ (x : List ℕ). FoundPainted x c px ws cv a px′ ws′ cv′) u p)
+
+-- with the claim
+pub kept : (text file : List ℕ) (q : Wanted) (b : Lent) (r : CanvasAnswer) (b′ : Lent) → CuePainted text file q b r b′ → CuePainted text file q b r b′ × Exactly text file q b r b′
+kept text file q b r b′ d = (d, claim text file q b r b′ d)

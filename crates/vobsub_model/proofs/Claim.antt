@@ -1,0 +1,195 @@
+-- The call keeps its claim on whole files: a reading is found within lent lengths exactly where it is one and they are long enough, and no
+-- files have two for one cue. Assumes nothing.
+use Prim.Native.Nat.{ℕ, _*_, _≤_}
+use mathlib.Core.Path.{_≡_, refl, sym, ap, _∙_, subst}
+use mathlib.Core.Logic.{_↔_}
+use mathlib.Core.Option.{some}
+use mathlib.Core.List.{List}
+use lib.ListN.{length}
+use lib.Dec.{leb}
+use lib.Seq.{sets}
+use borrow.Author.Tests.{leb-true, le-leb}
+use Rattle.outcome.specs.Outcome.{Res, ok, refuse, need, no-cue, short-pixels, short-words, short-canvas}
+use Rattle.grammar.proofs.Lengths.{reading-map, reading-canvas}
+use Rattle.outcome.proofs.Laws.{andThen-ok, check-ok, mapRes-ok, need-some}
+use Rattle.grammar.specs.Index.{Said}
+use Rattle.grammar.specs.IndexCues.{Cue, cuesOf, cueAt}
+use Rattle.grammar.specs.Packets.{Form, IsForm, unitOf}
+use Rattle.grammar.specs.Bands.{bandWords}
+use Rattle.grammar.specs.Record.{told, width, height}
+use Rattle.grammar.specs.Picture.{ListedUnit, IsUnit}
+use Rattle.grammar.specs.Reading.{Wanted, wantedId, Reading, IsReading, shown, wordsOf}
+use Rattle.control_model.specs.Chain.{controlAt}
+use Rattle.idx_model.specs.Text.{textOf}
+use Rattle.idx_model.proofs.Grammar.{text-iff, text-unique}
+use Rattle.ps_model.specs.Unit.{unitAt}
+use Rattle.ps_model.specs.Answers.{formStored}
+use Rattle.ps_model.proofs.Grammar.{form-iff, form-unique}
+use Rattle.ps_model.proofs.Claim.{unit-sound, unit-complete}
+use Rattle.spu_model.specs.Unit.{rowsAt, listedUnit}
+use Rattle.spu_model.specs.Unit as unit-of
+use Rattle.spu_model.proofs.Grammar.{unit-iff, unit-unique}
+use Rattle.vobsub_model.specs.Call.{Lent, Found, found, foundFor, canvasIn, reading, readingIn}
+use Rattle.vobsub_model.specs.Answers.{shownGiven, canvasAnswer, scratchOf, pixelsOf, bandsOf, paintedOf, CuePainted}
+use Rattle.vobsub_model.specs.Claim.{Gives, Room, Equal, Exactly}
+use Rattle.vobsub_model.specs.declared.CanvasAnswer.{CanvasAnswer}
+
+-- a unit is found within lent lengths exactly where it is found and they are long enough
+canvas-sound : (u : List ℕ) (n m k : ℕ) (l : ListedUnit) → canvasIn u n m k ≡ ok l
+    → (unit-of.unitAt u ≡ ok l) × (width (told (l .blocks)) * height (told (l .blocks)) ≤ n) × (length (bandWords (told (l .blocks) .bands)) ≤ m) × (4 * (width (told (l .blocks)) * height (told (l .blocks))) ≤ k)
+unfolding canvasIn unit-of.unitAt
+canvas-sound u n m k l e =
+    let a = andThen-ok (controlAt u) _ e in
+    let bs = a .0 in
+    let b = check-ok (leb (width (told bs) * height (told bs)) n) short-pixels _ (a .2) in
+    let c = check-ok (leb (length (bandWords (told bs .bands))) m) short-words _ (b .1) in
+    let d = check-ok (leb (4 * (width (told bs) * height (told bs))) k) short-canvas _ (c .1) in
+    let w = mapRes-ok (listedUnit bs) (rowsAt u (told bs)) (d .1) in
+    let z : bs ≡ l .blocks = ap (λ (x : ListedUnit). x .blocks) (w .2) in (
+      rw (a .1) (d .1),
+      rw (← z) (leb-true _ _ (b .0)),
+      rw (← z) (leb-true _ _ (c .0)),
+      rw (← z) (leb-true _ _ (d .0)),
+    )
+
+canvas-complete : (u : List ℕ) (n m k : ℕ) (l : ListedUnit) → unit-of.unitAt u ≡ ok l → width (told (l .blocks)) * height (told (l .blocks)) ≤ n → length (bandWords (told (l .blocks) .bands)) ≤ m
+    → 4 * (width (told (l .blocks)) * height (told (l .blocks))) ≤ k → canvasIn u n m k ≡ ok l
+unfolding canvasIn unit-of.unitAt
+canvas-complete u n m k l e h i j =
+    let a = andThen-ok (controlAt u) _ e in
+    let bs = a .0 in
+    let w = mapRes-ok (listedUnit bs) (rowsAt u (told bs)) (a .2) in
+    let z : bs ≡ l .blocks = ap (λ (x : ListedUnit). x .blocks) (w .2) in
+    let h′ : width (told bs) * height (told bs) ≤ n = rw z h in
+    let i′ : length (bandWords (told bs .bands)) ≤ m = rw z i in
+    let j′ : 4 * (width (told bs) * height (told bs)) ≤ k = rw z j in
+    rw (a .1, le-leb (width (told bs) * height (told bs)) n h′, le-leb (length (bandWords (told bs .bands))) m i′, le-leb (4 * (width (told bs) * height (told bs))) k j′) (a .2)
+
+-- the lines, the cue and the unit's form
+record Founded (text file : List ℕ) (q : Wanted) (n : ℕ) (f : Found) : Type 0 where
+  lines-are : textOf text ≡ ok (f .lines)
+  at : Cue
+  cue-is : cueAt (cuesOf (f .lines)) (q .cue) ≡ some at
+  form-is : unitAt (wantedId q) file (at .position) n ≡ ok (f .form)
+
+found-sound : (text file : List ℕ) (q : Wanted) (n : ℕ) (f : Found) → foundFor text file q n ≡ ok f → Founded text file q n f
+unfolding foundFor
+found-sound text file q n f e =
+    let a = andThen-ok (textOf text) _ e in
+    let b = andThen-ok (need no-cue (cueAt (cuesOf (a .0)) (q .cue))) _ (a .2) in
+    let c = mapRes-ok (found (a .0)) (unitAt (wantedId q) file (b .0 .position) n) (b .2) in
+    let l : a .0 ≡ f .lines = ap (λ (x : Found). x .lines) (c .2) in
+    let m : c .0 ≡ f .form = ap (λ (x : Found). x .form) (c .2) in
+    record {
+      lines-are = a .1 ∙ ap ok l;
+      at = b .0;
+      cue-is = ap (λ (x : List Said). cueAt (cuesOf x) (q .cue)) (sym l) ∙ need-some no-cue (cueAt (cuesOf (a .0)) (q .cue)) (b .1);
+      form-is = c .1 ∙ ap ok m;
+    }
+
+module _ (text file : List ℕ) (q : Wanted) where
+  -- a reading that is found is one, with room
+  sound : (b : Lent) (x : Reading) → readingIn text file q b ≡ ok x → IsReading text file q x × Room x b
+  unfolding readingIn wordsOf
+  sound b x e =
+      let a = andThen-ok (foundFor text file q (length (b .scratch))) _ e in
+      let f = a .0 in
+      let w = mapRes-ok (reading q f) (canvasIn (unitOf (f .form)) (length (b .pixels)) (length (b .words)) (length (b .canvas))) (a .2) in
+      let g = found-sound text file q (length (b .scratch)) f (a .1) in
+      let u = unit-sound file (g .at .position) (length (b .scratch)) (f .form) (g .form-is) in
+      let i = form-iff (wantedId q) file (g .at .position) (f .form) .0 (u .0) in
+      let c = canvas-sound (unitOf (f .form)) (length (b .pixels)) (length (b .words)) (length (b .canvas)) (w .0) (w .1) in
+      subst (λ (y : Reading). IsReading text file q y × Room y b) (w .2) (
+        record {
+          text-is = text-iff text (f .lines) .0 (g .lines-are);
+          cue-is = refl;
+          at = g .at;
+          listed = g .cue-is;
+          before-end = i .0;
+          form-is = i .1;
+          unit-is = unit-iff (unitOf (f .form)) (w .0) .0 (c .0);
+        },
+        record { for-unit = u .1; for-map = c .1; for-bands = c .2; for-canvas = c .3 },
+      )
+
+  -- and a reading with room is found
+  complete : (b : Lent) (x : Reading) → IsReading text file q x → Room x b → readingIn text file q b ≡ ok x
+  unfolding readingIn foundFor wordsOf
+  complete b x h r =
+      let t = text-iff text (x .lines) .1 (h .text-is) in
+      let k : cueAt (cuesOf (x .lines)) (q .cue) ≡ some (h .at) = ap (cueAt (cuesOf (x .lines))) (sym (h .cue-is)) ∙ h .listed in
+      let m = unit-complete file (h .at .position) (length (b .scratch)) (x .form) (form-iff (wantedId q) file (h .at .position) (x .form) .1 (h .before-end, h .form-is)) (r .for-unit) in
+      let c = canvas-complete (unitOf (x .form)) (length (b .pixels)) (length (b .words)) (length (b .canvas)) (x .unit) (unit-iff (unitOf (x .form)) (x .unit) .1 (h .unit-is)) (r .for-map) (r .for-bands) (r .for-canvas) in
+      rw (t, k, m, c) (λ i. ok (record { lines = x .lines; cue = sym (h .cue-is) i; form = x .form; unit = x .unit }))
+
+  pub reading-iff : (b : Lent) (x : Reading) → (readingIn text file q b ≡ ok x) ↔ (IsReading text file q x × Room x b)
+  reading-iff b x = (sound b x, λ h. complete b x (h .0) (h .1))
+
+  -- no files have two readings for one cue
+  pub no-two : (x y : Reading) → IsReading text file q x → IsReading text file q y → x ≡ y
+  no-two x y h k =
+      let l : x .lines ≡ y .lines = text-unique text (x .lines) (y .lines) (h .text-is) (k .text-is) in
+      let c : x .cue ≡ y .cue = h .cue-is ∙ sym (k .cue-is) in
+      let s : some (h .at) ≡ some (k .at) = sym (h .listed) ∙ (λ i. cueAt (cuesOf (l i)) (c i)) ∙ k .listed in
+      let a : h .at ≡ k .at = cc s in
+      let m : x .form ≡ y .form = form-unique (wantedId q) file (k .at .position) (x .form) (y .form) (k .before-end) (subst (λ (z : Cue). IsForm (wantedId q) file (z .position) (x .form)) a (h .form-is)) (k .form-is) in
+      let u : x .unit ≡ y .unit = unit-unique (unitOf (y .form)) (x .unit) (y .unit) (subst (λ (z : Form). IsUnit (unitOf z) (x .unit)) m (h .unit-is)) (k .unit-is) in
+      λ i. record { lines = l i; cue = c i; form = m i; unit = u i }
+
+  module _ (b : Lent) (r : CanvasAnswer) (b′ : Lent) (d : CuePainted text file q b r b′) where
+    -- a canvas is a reading's
+    given-reading : (o : Res Reading) → readingIn text file q b ≡ o → Gives r → (x : Reading) × (readingIn text file q b ≡ ok x)
+    given-reading (ok x) e g = (x, e)
+    given-reading (refuse n) e g = absurd (subst Gives (d .answer ∙ ap canvasAnswer e) g)
+
+    gives : (x : Reading) → readingIn text file q b ≡ ok x → Gives r
+    gives x e = subst Gives (sym (d .answer ∙ ap canvasAnswer e)) tt
+
+    equal : (x : Reading) → readingIn text file q b ≡ ok x → Equal x b r b′
+    unfolding readingIn shown shownGiven
+    equal x e =
+        let h = sound b x e .0 in
+        let a = andThen-ok (foundFor text file q (length (b .scratch))) _ e in
+        let w = mapRes-ok (reading q (a .0)) (canvasIn (unitOf (a .0 .form)) (length (b .pixels)) (length (b .words)) (length (b .canvas))) (a .2) in
+        let f : a .0 .form ≡ x .form = ap (λ (y : Reading). y .form) (w .2) in
+        record {
+          says = shownGiven (shown x);
+          paints = d .answer ∙ ap canvasAnswer e;
+          start = refl;
+          lasts = refl;
+          duration = refl;
+          start-delay = refl;
+          stop-delay = refl;
+          x1 = refl;
+          y1 = refl;
+          width = refl;
+          height = refl;
+          codes = refl;
+          in-scratch = d .in-scratch ∙ ap (λ (y : Res Found). sets (b .scratch) 0 (scratchOf y)) (a .1) ∙ ap (λ (y : Form). sets (b .scratch) 0 (formStored y)) f;
+          in-pixels = d .in-pixels ∙ ap (λ (y : Res Reading). sets (b .pixels) 0 (pixelsOf y)) e;
+          in-words = d .in-words ∙ ap (λ (y : Res Reading). sets (b .words) 0 (bandsOf y)) e;
+          in-canvas = d .in-canvas ∙ ap (λ (y : Res Reading). sets (b .canvas) 0 (paintedOf y)) e;
+          map-long = reading-map text file q x h;
+          canvas-long = reading-canvas text file q x h;
+        }
+
+    left : (o : Res Reading) → readingIn text file q b ≡ o → (Gives r → ⊥) → (b′ .pixels ≡ b .pixels) × (b′ .words ≡ b .words) × (b′ .canvas ≡ b .canvas)
+    left (ok x) e n = absurd (n (gives x e))
+    left (refuse m) e n = (
+      d .in-pixels ∙ ap (λ (y : Res Reading). sets (b .pixels) 0 (pixelsOf y)) e,
+      d .in-words ∙ ap (λ (y : Res Reading). sets (b .words) 0 (bandsOf y)) e,
+      d .in-canvas ∙ ap (λ (y : Res Reading). sets (b .canvas) 0 (paintedOf y)) e,
+    )
+
+    pub claim : Exactly text file q b r b′
+    claim = record {
+      exactly-when = (
+        λ g. let w = given-reading (readingIn text file q b) refl g in let s = sound b (w .0) (w .1) in (w .0, s .0, s .1),
+        λ w. gives (w .0) (complete b (w .0) (w .1) (w .2)),
+      );
+      no-two = no-two;
+      same = λ x h g.
+          let w = given-reading (readingIn text file q b) refl g in
+          equal x (w .1 ∙ ap ok (no-two (w .0) x (sound b (w .0) (w .1) .0) h));
+      as-found = left (readingIn text file q b) refl;
+    }

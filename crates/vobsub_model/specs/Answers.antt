@@ -1,0 +1,108 @@
+-- What each answer of the code means, and what the lent buffers hold after a call (FORMAT 6.5, 6.6). Assumes nothing: these are definitions.
+use Prim.Native.Nat.{ℕ, _+_, _-_}
+use mathlib.Core.Path.{_≡_}
+use mathlib.Core.List.{List, []}
+use lib.ListN.{length}
+use lib.Seq.{sets}
+use Rattle.outcome.specs.Outcome.{Res, ok, refuse}
+use Rattle.grammar.specs.Picture.{ListedUnit}
+use Rattle.grammar.specs.Reading.{Wanted, Reading, shown, mapOf, wordsOf, unitCanvas, canvasOf}
+use Rattle.grammar.specs.Reading as grammar-reading
+use Rattle.control_model.specs.declared.Spu.{Spu}
+use Rattle.idx_model.specs.Answers.{given, orZero}
+use Rattle.idx_model.specs.declared.CueAnswer.{CueAnswer}
+use Rattle.ps_model.specs.Answers.{formStored}
+use Rattle.spu_model.specs.Answers.{spuAnswer, unitMap, unitBands}
+use Rattle.spu_model.specs.declared.SpuAnswer.{SpuAnswer}
+use Rattle.spu_model.specs.declared.SpuAnswer.the-variants as spu-answer
+use Rattle.vobsub_model.specs.Call.{Lent, Found, foundFor, canvasIn, readingIn}
+use Rattle.vobsub_model.specs.declared.Shown.{Shown}
+use Rattle.vobsub_model.specs.declared.CanvasAnswer.{CanvasAnswer}
+use Rattle.vobsub_model.specs.declared.CanvasAnswer.the-variants as canvas-answer
+
+-- ---- A unit
+
+-- the canvas of what is listed; none on a refusal
+abbrev pub canvasStored : List ℕ → Res ListedUnit → List ℕ
+canvasStored palette (ok l) = unitCanvas palette l
+canvasStored palette (refuse n) = []
+
+-- what painting a unit leaves: on a refusal nothing is stored
+pub record UnitPainted (u palette px ws cv : List ℕ) (r : SpuAnswer) (px′ ws′ cv′ : List ℕ) : Type 0 where
+  pub answer : r ≡ spuAnswer (canvasIn u (length px) (length ws) (length cv))
+  pub pixels : px′ ≡ sets px 0 (unitMap (canvasIn u (length px) (length ws) (length cv)))
+  pub words : ws′ ≡ sets ws 0 (unitBands (canvasIn u (length px) (length ws) (length cv)))
+  pub canvas : cv′ ≡ sets cv 0 (canvasStored palette (canvasIn u (length px) (length ws) (length cv)))
+
+-- a cue's times with a unit's record
+abbrev pub shownOf : CueAnswer → Spu → Shown
+shownOf c s =
+    record {
+      start = c .start;
+      «has_duration» = c .«has_duration»;
+      duration = c .duration;
+      «start_delay» = s .«start_delay_raw»;
+      «stop_delay» = s .«stop_delay_raw»;
+      x1 = s .x1;
+      y1 = s .y1;
+      width = s .x2 + 1 - s .x1;
+      height = s .y2 + 1 - s .y1;
+      codes = s .codes;
+    }
+
+abbrev pub paintsOf : CueAnswer → SpuAnswer → CanvasAnswer
+paintsOf c (spu-answer.Shows s) = canvas-answer.Paints (shownOf c s)
+paintsOf c (spu-answer.Refused n) = canvas-answer.Refused n
+
+-- what painting the unit u of the cue c leaves
+pub record FoundPainted (u : List ℕ) (c : CueAnswer) (px ws cv : List ℕ) (r : CanvasAnswer) (px′ ws′ cv′ : List ℕ) : Type 0 where
+  pub says : SpuAnswer
+  pub answer : r ≡ paintsOf c says
+  pub painted : UnitPainted u (c .palette) px ws cv says px′ ws′ cv′
+
+-- ---- The whole call
+
+-- what a reading shows
+unfoldable pub shownGiven : grammar-reading.Shown → Shown
+shownGiven g =
+    record {
+      start = g .start;
+      «has_duration» = given (g .duration);
+      duration = orZero (g .duration);
+      «start_delay» = g .start-delay;
+      «stop_delay» = g .stop-delay;
+      x1 = g .x1;
+      y1 = g .y1;
+      width = g .width;
+      height = g .height;
+      codes = g .codes;
+    }
+
+abbrev pub canvasAnswer : Res Reading → CanvasAnswer
+canvasAnswer (ok r) = canvas-answer.Paints (shownGiven (shown r))
+canvasAnswer (refuse n) = canvas-answer.Refused n
+
+-- what each buffer gets: scratch as soon as the unit is found, the others from a whole reading
+abbrev pub scratchOf : Res Found → List ℕ
+scratchOf (ok f) = formStored (f .form)
+scratchOf (refuse n) = []
+
+abbrev pub pixelsOf : Res Reading → List ℕ
+pixelsOf (ok r) = mapOf r
+pixelsOf (refuse n) = []
+
+abbrev pub bandsOf : Res Reading → List ℕ
+bandsOf (ok r) = wordsOf r
+bandsOf (refuse n) = []
+
+abbrev pub paintedOf : Res Reading → List ℕ
+paintedOf (ok r) = canvasOf r
+paintedOf (refuse n) = []
+
+-- the answer, and what the four buffers hold: on a refusal as found, but for the front of scratch after a unit was joined there
+pub record CuePainted (text file : List ℕ) (q : Wanted) (b : Lent) (r : CanvasAnswer) (b′ : Lent) : Type 0 where
+  pub answer : r ≡ canvasAnswer (readingIn text file q b)
+  pub in-scratch : b′ .scratch ≡ sets (b .scratch) 0 (scratchOf (foundFor text file q (length (b .scratch))))
+  pub in-pixels : b′ .pixels ≡ sets (b .pixels) 0 (pixelsOf (readingIn text file q b))
+  pub in-words : b′ .words ≡ sets (b .words) 0 (bandsOf (readingIn text file q b))
+  pub in-canvas : b′ .canvas ≡ sets (b .canvas) 0 (paintedOf (readingIn text file q b))

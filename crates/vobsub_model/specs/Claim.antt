@@ -1,0 +1,51 @@
+-- What the call claims of whole files, in the grammar's words (FORMAT 6.4 to 6.6). Assumes nothing: these are definitions.
+use mathlib.Core.Path.{_≡_}
+use mathlib.Core.Logic.{_↔_}
+use mathlib.Core.List.{List}
+use Prim.Native.Nat.{ℕ, _*_}
+use lib.ListN.{length}
+use lib.Seq.{sets}
+use Rattle.grammar.specs.Reading.{Wanted, Reading, IsReading, shown, mapOf, wordsOf, canvasOf, LongEnough}
+use Rattle.idx_model.specs.Answers.{given, orZero}
+use Rattle.ps_model.specs.Answers.{formStored}
+use Rattle.vobsub_model.specs.Call.{Lent}
+use Rattle.vobsub_model.specs.declared.Shown.{Shown}
+use Rattle.vobsub_model.specs.declared.CanvasAnswer.{CanvasAnswer}
+use Rattle.vobsub_model.specs.declared.CanvasAnswer.the-variants as canvas-answer
+
+-- the answer is a canvas
+abbrev pub Gives : CanvasAnswer → Type 0
+Gives (canvas-answer.Paints s) = Unit {0}
+Gives (canvas-answer.Refused n) = ⊥
+
+-- the lent buffers are long enough for a reading
+abbrev pub Room : Reading → Lent → Type 0
+Room x b = LongEnough x (length (b .scratch)) (length (b .pixels)) (length (b .words)) (length (b .canvas))
+
+-- answer and buffers are what the reading gives, a byte of the map and four of the canvas for each pixel; past that each buffer is as found
+pub record Equal (x : Reading) (b : Lent) (r : CanvasAnswer) (b′ : Lent) : Type 0 where
+  pub says : Shown
+  pub paints : r ≡ canvas-answer.Paints says
+  pub start : says .start ≡ shown x .start
+  pub lasts : says .«has_duration» ≡ given (shown x .duration)
+  pub duration : says .duration ≡ orZero (shown x .duration)
+  pub start-delay : says .«start_delay» ≡ shown x .start-delay
+  pub stop-delay : says .«stop_delay» ≡ shown x .stop-delay
+  pub x1 : says .x1 ≡ shown x .x1
+  pub y1 : says .y1 ≡ shown x .y1
+  pub width : says .width ≡ shown x .width
+  pub height : says .height ≡ shown x .height
+  pub codes : says .codes ≡ shown x .codes
+  pub in-scratch : b′ .scratch ≡ sets (b .scratch) 0 (formStored (x .form))
+  pub in-pixels : b′ .pixels ≡ sets (b .pixels) 0 (mapOf x)
+  pub in-words : b′ .words ≡ sets (b .words) 0 (wordsOf x)
+  pub in-canvas : b′ .canvas ≡ sets (b .canvas) 0 (canvasOf x)
+  pub map-long : length (mapOf x) ≡ shown x .width * shown x .height
+  pub canvas-long : length (canvasOf x) ≡ 4 * (shown x .width * shown x .height)
+
+-- a canvas exactly where there is a reading and room for it; no two readings; and all that is given is the reading's
+pub record Exactly (text file : List ℕ) (q : Wanted) (b : Lent) (r : CanvasAnswer) (b′ : Lent) : Type 0 where
+  pub exactly-when : Gives r ↔ ((x : Reading) × IsReading text file q x × Room x b)
+  pub no-two : (x y : Reading) → IsReading text file q x → IsReading text file q y → x ≡ y
+  pub same : (x : Reading) → IsReading text file q x → Gives r → Equal x b r b′
+  pub as-found : (Gives r → ⊥) → (b′ .pixels ≡ b .pixels) × (b′ .words ≡ b .words) × (b′ .canvas ≡ b .canvas)

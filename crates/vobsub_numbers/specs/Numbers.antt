@@ -1,0 +1,26 @@
+-- Numbers of records and answers put into the order of include/vobsub.h. Assumes nothing: these are definitions.
+use Prim.Native.Nat.{ℕ}
+use mathlib.Core.List.{List, [], _∷_}
+use mathlib.Core.Bool.{cond}
+use Rattle.control_model.specs.declared.Spu.{Spu}
+use Rattle.idx_model.specs.declared.IdxAnswer.{IdxAnswer}
+use Rattle.idx_model.specs.declared.CueAnswer.{CueAnswer}
+use Rattle.vobsub_model.specs.declared.Shown.{Shown}
+
+-- the numbers of a record in the order of include/vobsub.h
+abbrev pub spuNumbers : Spu → List ℕ
+spuNumbers s =
+    s .x1 ∷ s .y1 ∷ s .x2 ∷ s .y2 ∷ s .«palette_sel» ∷ s .alpha ∷ cond (s .started) 1 0 ∷ s .«start_delay_raw» ∷ cond (s .stopped) 1 0 ∷ s .«stop_delay_raw» ∷ cond (s .«forced_display») 1 0 ∷ s .«top_rle_off» ∷ s .«bot_rle_off» ∷ cond (s .«saw_chg_colcon») 1 0 ∷ s .«band_words» ∷ s .codes ∷ []
+
+-- size, whether there is a palette and the number of cues in the order of include/vobsub.h
+abbrev pub idxNumbers : IdxAnswer → List ℕ
+idxNumbers a = a .width ∷ a .height ∷ cond (a .«has_palette») 1 0 ∷ a .cues ∷ []
+
+-- position, whether there is a duration, the duration, and whether there is a palette in the order of include/vobsub.h
+abbrev pub cueNumbers : CueAnswer → List ℕ
+cueNumbers a = a .position ∷ cond (a .«has_duration») 1 0 ∷ a .duration ∷ cond (a .«has_palette») 1 0 ∷ []
+
+-- whether there is a duration, the duration, the delays, the place, the size and the number of codes in the order of include/vobsub.h
+abbrev pub shownNumbers : Shown → List ℕ
+shownNumbers s =
+    cond (s .«has_duration») 1 0 ∷ s .duration ∷ s .«start_delay» ∷ s .«stop_delay» ∷ s .x1 ∷ s .y1 ∷ s .width ∷ s .height ∷ s .codes ∷ []
