@@ -40,3 +40,7 @@ claim s at ws r ws′ d = go (bandsOf s) refl
         (λ (l : at + length vs ≤ length ws). told (ok vs) (rw (q, le-leb _ _ l)) (λ f. (vs, listed-words s vs q, omega arith, omega arith, f)))
         (λ (l : length ws < at + length vs). told (refuse short-words) (rw (q, lt-leb _ _ l)) (λ f. (f, inr (refl, (vs, listed-words s vs q, l)))))
         (le-or-lt (at + length vs) (length ws))
+
+-- the equation with the claim, as the contract has both
+pub claimed : {s : List ℕ} {at : ℕ} {ws : List ℕ} {r : BandAnswer} {ws′ : List ℕ} → Stored s at ws r ws′ → Stored s at ws r ws′ × Says s at ws ws′ r
+claimed {s} {at} {ws} {r} {ws′} d = (d, claim s at ws r ws′ d)

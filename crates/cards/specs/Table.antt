@@ -1,11 +1,11 @@
 -- The table of cards: bytes, what the definitions make of them, and what that should be. Each layer has its part.
 -- Assumes nothing: these are definitions.
-use Prim.Native.Nat.{ℕ, _*_}
+use Prim.Native.Nat.{ℕ, suc, _*_}
 use mathlib.Core.Bool.{true, false, cond}
 use mathlib.Core.Option.{Option, some, none}
 use mathlib.Core.List.{List, [], _∷_, _++_}
 use lib.ListN.{length, replicate}
-use lib.IntN.{natAbs, pos, negsuc}
+use lib.IntN.{ℤ, pos, negsuc}
 use Rattle.outcome.specs.Outcome.{Res, ok, refuse, need, listed, bad-position}
 use Rattle.grammar.specs.IndexParts.{colon}
 use Rattle.grammar.specs.IndexCues.{Cue}
@@ -61,7 +61,7 @@ read (Is n) = 0 ∷ n ∷ []
 read (Refused n) = n ∷ []
 
 unfoldable pub reader : List ℕ → ℕ → List ℕ
-reader s p = read (nibbleAnswer (nibbleAt s p)) ++ pastNibble s p ∷ onByte s p ∷ []
+reader s p = read (nibbleAnswer (nibbleAt s p)) ++ pastNibble s p ∷ onByte p ∷ []
 
 -- the field s read into the rows start, start + 2, .. of the map px: the number of codes, and the map
 unfoldable pub field : List ℕ → ℕ → ℕ → ℕ → List ℕ → List ℕ
@@ -114,12 +114,17 @@ fieldsOf s =
     s .x1 ∷ s .y1 ∷ s .x2 ∷ s .y2 ∷ s .«palette_sel» ∷ s .alpha ∷ cond (s .started) 1 0 ∷ s .«start_delay_raw» ∷ cond (s .stopped) 1 0 ∷ s .«stop_delay_raw»
     ∷ cond (s .«forced_display») 1 0 ∷ s .«top_rle_off» ∷ s .«bot_rle_off» ∷ cond (s .«saw_chg_colcon») 1 0 ∷ s .«band_words» ∷ s .codes ∷ []
 
--- the position that these bytes say, and the start, which is not below 0, of a time in these bytes
+-- a signed number: 1 where it is below 0, and how far it is from 0
+abbrev pub whole : ℤ → List ℕ
+whole (pos n) = 0 ∷ n ∷ []
+whole (negsuc n) = 1 ∷ suc n ∷ []
+
+-- the position that these bytes say, and the start of a time in these bytes
 unfoldable pub position : List ℕ → List ℕ
 position s = outcome (λ v. v ∷ []) (need bad-position (positionOf s))
 
 unfoldable pub start : List ℕ → List ℕ
-start s = outcome (λ z. natAbs z ∷ []) (timeAt (split colon 0 s))
+start s = outcome whole (timeAt (split colon 0 s))
 
 -- the digits 256204778, and one more
 abbrev pub hours : ℕ → List ℕ
@@ -149,7 +154,7 @@ lasting none = 0 ∷ []
 lasting (some d) = 1 ∷ d ∷ []
 
 abbrev pub shows : Shown → List ℕ
-shows s = natAbs (s .start) ∷ lasting (s .duration) ++ s .start-delay ∷ s .stop-delay ∷ s .x1 ∷ s .y1 ∷ s .width ∷ s .height ∷ s .codes ∷ []
+shows s = whole (s .start) ++ lasting (s .duration) ++ s .start-delay ∷ s .stop-delay ∷ s .x1 ∷ s .y1 ∷ s .width ∷ s .height ∷ s .codes ∷ []
 
 unfoldable pub cue : List ℕ → List ℕ → Lent → List ℕ
 cue text file b = outcome (λ r. shows (shown r) ++ canvasOf r) (readingIn text file (wanted 0) b)
@@ -158,12 +163,12 @@ cue text file b = outcome (λ r. shows (shown r) ++ canvasOf r) (readingIn text 
 unfoldable pub title : List ℕ → List ℕ → List ℕ
 title text file = titleLines true text file
 
--- the start, not below 0, that a timestamp with these parts says: the digits 256204778 and one more, and `filepos: 0`
+-- the start that a timestamp with these parts says: the digits 256204778 and one more, and `filepos: 0`
 abbrev startIn : Option Said → List ℕ
 startIn none = []
 startIn (some (size l w h)) = []
 startIn (some (palette l ts)) = []
-startIn (some (timestamp l ps fs n)) = natAbs (startOf fs) ∷ []
+startIn (some (timestamp l ps fs n)) = whole (startOf fs)
 
 abbrev part : ℕ → List ℕ → Part
 part p s = record { place = p; bytes = s }
@@ -188,7 +193,7 @@ bytes =
     ∷ card (reader (0xA5 ∷ []) 0) (0 ∷ 10 ∷ 1 ∷ 0 ∷ [])
     ∷ card (reader (0xA5 ∷ []) 1) (0 ∷ 5 ∷ 2 ∷ 2 ∷ [])
     ∷ card (reader (0xA5 ∷ []) 2) (26 ∷ 2 ∷ 2 ∷ [])
-    ∷ card (reader (0xA5 ∷ []) 3) (26 ∷ 3 ∷ 3 ∷ [])
+    ∷ card (reader (0xA5 ∷ []) 3) (26 ∷ 3 ∷ 4 ∷ [])
     -- a run of 64, and a fill of what is left of 65
     ∷ card (field (0x01 ∷ 0x01 ∷ 0x00 ∷ 0x02 ∷ []) 65 1 0 (replicate 65 0)) (0 ∷ 2 ∷ replicate 64 1 ++ 2 ∷ [])
     -- rows 0 and 2 of three, and rows 1 and 3 of four: each next row two on, from a byte
@@ -220,11 +225,12 @@ bytes =
     -- each value of what was told in its field of the record
     ∷ card (fieldsOf (spuOf (told blocks) 13)) (1 ∷ 2 ∷ 3 ∷ 4 ∷ 11 ∷ 12 ∷ 1 ∷ 7 ∷ 1 ∷ 9 ∷ 1 ∷ 5 ∷ 6 ∷ 1 ∷ 3 ∷ 13 ∷ [])
     ∷ card (fieldsOf (spuOf (told []) 0)) (replicate 16 0)
-    -- positions `10` and `10000000000000000`; 2562047788 hours stand, 2562047789 do not (FORMAT 1.7, 1.8)
+    -- positions `10` and `10000000000000000`; 2562047788 hours stand, 2562047789 do not; `-1` is an hour before 0 (FORMAT 1.7, 1.8)
     ∷ card (position (49 ∷ 48 ∷ [])) (0 ∷ 16 ∷ [])
     ∷ card (position (49 ∷ replicate 16 48)) (0 ∷ 10000000000000000 ∷ [])
-    ∷ card (start (hours 56)) (0 ∷ 9223372036800000000 ∷ [])
+    ∷ card (start (hours 56)) (0 ∷ 0 ∷ 9223372036800000000 ∷ [])
     ∷ card (start (hours 57)) (8 ∷ [])
+    ∷ card (start (45 ∷ 49 ∷ [])) (0 ∷ 1 ∷ 3600000000 ∷ [])
     -- a written unit; a run of 64 before the row's end, and the fill at it; a side of 0, an index too few, an index of 4
     ∷ card (written 2 2 (1 ∷ 1 ∷ 2 ∷ 3 ∷ [])) (0 ∷ 0x00 ∷ 0x21 ∷ 0x00 ∷ 0x09 ∷ 0x00 ∷ 0x01 ∷ 0x60 ∷ 0x00 ∷ 0x30 ∷ 0x00 ∷ 0x00 ∷ 0x00 ∷ 0x09 ∷ 0x03 ∷ 0x01 ∷ 0x32 ∷ 0x04 ∷ 0x0F ∷ 0xFF ∷ 0x05 ∷ 0x00 ∷ 0x00 ∷ 0x01 ∷ 0x00 ∷ 0x00 ∷ 0x01 ∷ 0x06 ∷ 0x00 ∷ 0x04 ∷ 0x00 ∷ 0x06 ∷ 0x01 ∷ 0xFF ∷ [])
     ∷ card (upper 65 1 (replicate 64 1 ++ (2 ∷ []))) (0x01 ∷ 0x01 ∷ 0x00 ∷ 0x02 ∷ [])
@@ -250,11 +256,11 @@ small-title = card (title small-text small-file) (99 ∷ 117 ∷ 101 ∷ 115 ∷
 unfoldable pub small-painted : Card
 small-painted =
     card (cue small-text small-file (lent [] (replicate 4 9) [] (replicate 16 9)))
-    (0 ∷ 1000000 ∷ 0 ∷ 0 ∷ 0 ∷ 0 ∷ 0 ∷ 2 ∷ 2 ∷ 3 ∷ 0 ∷ 0 ∷ 0 ∷ 255 ∷ 0 ∷ 0 ∷ 0 ∷ 255 ∷ 0 ∷ 0 ∷ 0 ∷ 255 ∷ 0 ∷ 0 ∷ 0 ∷ 255 ∷ [])
+    (0 ∷ 0 ∷ 1000000 ∷ 0 ∷ 0 ∷ 0 ∷ 0 ∷ 0 ∷ 2 ∷ 2 ∷ 3 ∷ 0 ∷ 0 ∷ 0 ∷ 255 ∷ 0 ∷ 0 ∷ 0 ∷ 255 ∷ 0 ∷ 0 ∷ 0 ∷ 255 ∷ 0 ∷ 0 ∷ 0 ∷ 255 ∷ [])
 
 -- 2562047788 hours in a timestamp, and one hour more
 unfoldable pub hours-stand : Card
-hours-stand = card (stamped 56) (0 ∷ 9223372036800000000 ∷ [])
+hours-stand = card (stamped 56) (0 ∷ 0 ∷ 9223372036800000000 ∷ [])
 
 unfoldable pub hours-leave : Card
 hours-leave = card (stamped 57) (8 ∷ [])

@@ -9,6 +9,7 @@ use outcome::SHORT_WORDS;
 ghost use mathlib.Core.Path.{_≡_};
 ghost use Prim.Native.Nat.{_≤_, _<_, _-_, _+_, _*_, _^_};
 ghost use lib.ListN.{length, drop, set};
+ghost use Rattle.bands_model.specs.Claim.{Says};
 ghost use Rattle.bands_model.specs.Bands.{wordOf, header, headOf, entryOf, bandsOf, entriesOf};
 ghost use Rattle.outcome.specs.Outcome.{listed, IsOk};
 ghost use Rattle.bands_model.specs.Answers.{countOf, Stored, restOf, Goes, Ahead, ListRead};
@@ -273,7 +274,7 @@ pub fn count_words(payload: &[u8]) -> BandAnswer
 // The bands in a payload, stored from place `at` of the lent words on. On a refusal the words are as found.
 // Ruled out: words stored before the list is known to be whole; a colour's nibble in another place of its word.
 pub fn parse_chg_colcon_payload(payload: &[u8], words: &mut [u16], at: usize) -> BandAnswer
-    ensures { λ r. ⌜ Stored (now (payload .entry)) at (now (words .entry)) r (now (words .exit)) ⌝ }
+    ensures { λ r. ⌜ Stored (now (payload .entry)) at (now (words .entry)) r (now (words .exit)) × Says (now (payload .entry)) at (now (words .entry)) (now (words .exit)) r ⌝ }
 {
     match count_words(payload) {
         BandAnswer::Words(n) => {

@@ -1,5 +1,5 @@
 // The control blocks of a unit: a chain of blocks whose commands say when, where and in which colours its picture is shown
-// (docs/FORMAT.md, section 3). What they say is told in one record.
+// (docs/FORMAT.md, section 3). One record holds what they say.
 use bands_model::BandAnswer;
 use control_model::CommandAnswer;
 use control_model::ControlAnswer;

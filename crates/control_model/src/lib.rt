@@ -15,7 +15,8 @@ pub struct Spu {
     // The words of four palette selectors and of four alphas, colour 0 in the top nibble.
     pub palette_sel: u16,
     pub alpha: u16,
-    // The delay of the first start, of either kind, and of the last stop.
+    // The delay words of two blocks: of the one whose start command, forced or not, comes before every other, and of the one whose stop command
+    // comes after every other.
     pub start_delay_raw: u16,
     pub stop_delay_raw: u16,
     // Where the two fields start in the unit.

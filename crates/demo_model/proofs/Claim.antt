@@ -1,30 +1,31 @@
 -- The layer keeps its claim: what is written reads back. Assumes nothing.
 use Prim.Native.Nat.{ℕ, _+_, _-_, _*_, _/_, _≤_}
 use native.Mathlib.Omega.{arith}
-use mathlib.Core.Path.{_≡_, ap, _∙_, subst}
+use mathlib.Core.Path.{_≡_, refl, sym, ap, _∙_, subst}
 use mathlib.Core.Bool.{_&&_}
 use mathlib.Core.List.{List}
-use lib.ListN.{length}
-use lib.Seq.{sets}
+use lib.ListN.{length, take, drop}
+use lib.Seq.{sets, sets-eq, take-at}
 use lib.Dec.{eqb, leb}
 use borrow.Author.Tests.{leb-true, eqb-true}
-use Rattle.outcome.specs.Outcome.{Res, ok, bad-side, not-all-indices, bad-index, long-unit, short-output}
+use Rattle.outcome.specs.Outcome.{Res, ok, refuse, listed, bad-side, not-all-indices, bad-index, long-unit, short-output}
 use Rattle.outcome.proofs.Laws.{ok-injective, and-true, check-ok, andThen-ok}
 use Rattle.grammar.specs.Bands.{bandWords}
-use Rattle.grammar.specs.Pixels.{indexMap}
+use Rattle.grammar.specs.Pixels.{indexMap, codesIn}
 use Rattle.grammar.specs.Record.{Told, told, width, height}
-use Rattle.grammar.specs.Picture.{ListedUnit}
+use Rattle.grammar.specs.Picture.{ListedUnit, IsUnit}
 use Rattle.control_model.specs.Answers.{spuOf}
 use Rattle.spu_model.specs.Unit.{unitIn}
 use Rattle.spu_model.specs.Answers.{spuAnswer, unitMap, unitBands, Decoded}
 use Rattle.spu_model.specs.declared.SpuAnswer.{SpuAnswer}
 use Rattle.spu_model.specs.declared.SpuAnswer.the-variants as spu-answer
-use Rattle.spu_model.proofs.Grammar.{unit-iff}
+use Rattle.spu_model.proofs.Grammar.{unit-iff, unit-unique}
 use Rattle.spu_model.proofs.Claim.{in-complete}
 use Rattle.demo_model.specs.Codes.{lastMarks, marksIn, pictureRows}
 use Rattle.demo_model.specs.Unit.{topNibbles, unitOf, isSide, allColours, pictureOk, sizedUnit, demoAt}
-use Rattle.demo_model.specs.Answers.{Sound}
-use Rattle.demo_model.specs.Claim.{writtenTold, ReadsBack, Listed}
+use Rattle.demo_model.specs.Answers.{Sound, demoGiven, Written}
+use Rattle.demo_model.specs.declared.DemoAnswer.{DemoAnswer}
+use Rattle.demo_model.specs.Claim.{writtenTold, Listed, ReadsBack, Kept, KeptIn}
 use Rattle.demo_model.proofs.Marks.{fill-closes}
 use Rattle.demo_model.proofs.Unit.{Back, back}
 use Rattle.demo_model.proofs.Whole.{demo-sound}
@@ -51,28 +52,76 @@ module _ (w h : ℕ) (px : List ℕ) (n : ℕ) (u : List ℕ) (e : demoAt w h px
       let g = check-ok (leb (length (unitOf lastMarks w h px)) n) short-output _ (f .1) in
       record { sound = demo-sound w h px px (s .0) (s .1) (eqb-true _ _ (c .0)) (d .0); unit = ok-injective (g .1); short = leb-true _ _ (f .0) }
 
+  pub room : 0 + length u ≤ n
+  unfolding demoAt sizedUnit
+  room =
+      let a = andThen-ok (pictureOk w h px) _ e in
+      let f = check-ok (leb (length (unitOf lastMarks w h px)) 65535) long-unit _ (a .2) in
+      let g = check-ok (leb (length (unitOf lastMarks w h px)) n) short-output _ (f .1) in
+      omega (arith, ap length (ok-injective (g .1)), leb-true (length (unitOf lastMarks w h px)) n (g .0))
+
   read : Back lastMarks w h px
   read = let s = taken .sound in back lastMarks fill-closes w h px (s .wide) (s .w-most) (s .high) (s .h-most) (s .all) (s .colours) (taken .short)
 
-  pub listed-back : Listed w px u
-  listed-back = let b = read in subst (Listed w px) (taken .unit) (record { list = b .list; listed = b .listed; picture = b .picture })
+  wide-is : width (told (read .list .blocks)) ≡ w
+  wide-is = let s = taken .sound .wide in ap width (read .tells) ∙ omega arith
 
-  pub reads-back : (map ws : List ℕ) → w * h ≤ length map → (r : SpuAnswer) (map′ ws′ : List ℕ) → Decoded u map ws r map′ ws′ → ReadsBack w h px map ws r map′ ws′
-  unfolding bandWords
-  reads-back map ws l r map′ ws′ d =
+  high-is : height (told (read .list .blocks)) ≡ h
+  high-is = let s = taken .sound .high in ap height (read .tells) ∙ omega arith
+
+  -- the grammar lists the unit as the picture
+  lists : Listed w h px u (read .list)
+  lists = record {
+    listed = subst (λ (v : List ℕ). IsUnit v (read .list)) (taken .unit) (read .listed);
+    wide = wide-is;
+    high = high-is;
+    picture = ap (λ (k : ℕ). indexMap k (read .list .rows)) wide-is ∙ read .picture;
+  }
+
+  -- and as many codes are listed as the writer means to write
+  pub codes-written : (l : ListedUnit) → IsUnit u l → codesIn (l .rows) ≡ marksIn lastMarks (pictureRows w h px)
+  codes-written l i = ap (λ (k : ListedUnit). codesIn (k .rows)) (unit-unique u l (read .list) i (lists .listed)) ∙ read .codes
+
+  -- and reading gives it back
+  reads : (map ws : List ℕ) → w * h ≤ length map → (r : SpuAnswer) (map′ ws′ : List ℕ) → Decoded u map ws r map′ ws′ → ReadsBack w h px (read .list) map ws r map′ ws′
+  unfolding bandWords spuOf
+  reads map ws l r map′ ws′ d =
       let b = read in
-      let s = taken .sound in
       let t : Told = writtenTold w h (4 + length (topNibbles lastMarks w h px) / 2) in
-      let a = s .wide in
-      let c = s .high in
-      let x : width (told (b .list .blocks)) ≡ w = ap width (b .tells) ∙ omega arith in
-      let y : height (told (b .list .blocks)) ≡ h = ap height (b .tells) ∙ omega arith in
+      let n : ℕ = codesIn (b .list .rows) in
       let z : length (bandWords (told (b .list .blocks) .bands)) ≡ 0 = ap (λ (q : Told). length (bandWords (q .bands))) (b .tells) in
-      let room : width (told (b .list .blocks)) * height (told (b .list .blocks)) ≤ length map = rw (x, y) l in
+      let room : width (told (b .list .blocks)) * height (told (b .list .blocks)) ≤ length map = rw (wide-is, high-is) l in
       let f = unit-iff (unitOf lastMarks w h px) (b .list) .1 (b .listed) in
       let g : unitIn u (length map) (length ws) ≡ ok (b .list) = subst (λ (v : List ℕ). unitIn v (length map) (length ws) ≡ ok (b .list)) (taken .unit) (in-complete (unitOf lastMarks w h px) (length map) (length ws) (b .list) f (room, omega arith)) in
+      let a = taken .sound .wide in
+      let c = taken .sound .high in
       record {
-        answer = d .answer ∙ ap spuAnswer g ∙ ap (λ (k : ℕ). spuAnswerOf (told (b .list .blocks)) k) (b .codes) ∙ ap (λ (q : Told). spuAnswerOf q (marksIn lastMarks (pictureRows w h px))) (b .tells);
-        pixels = d .pixels ∙ ap (λ (q : Res ListedUnit). sets map 0 (unitMap q)) g ∙ ap (λ (k : ℕ). sets map 0 (indexMap k (b .list .rows))) x ∙ ap (sets map 0) (b .picture);
+        says = spuOf t n;
+        shows = d .answer ∙ ap spuAnswer g ∙ ap (λ (q : Told). spuAnswerOf q n) (b .tells);
+        x1 = refl;
+        y1 = refl;
+        wide = omega arith;
+        high = omega arith;
+        codes = refl;
+        others = refl;
+        pixels = d .pixels ∙ ap (λ (q : Res ListedUnit). sets map 0 (unitMap q)) g ∙ ap (sets map 0) (lists .picture);
         words = d .words ∙ ap (λ (q : Res ListedUnit). sets ws 0 (unitBands q)) g ∙ ap (λ (q : Told). sets ws 0 (bandWords (q .bands))) (b .tells);
       }
+
+  kept : Kept w h px u
+  kept = record { list = read .list; lists = lists; reads = reads }
+
+-- what the contract of `build_demo_spu` says beside its equation
+pub claim : (w h : ℕ) (px out : List ℕ) (r : DemoAnswer) (out′ : List ℕ) → Written w h px out r out′ → KeptIn w h px r out′
+claim w h px out r out′ d = go (demoAt w h px (length out)) refl (d .answer) (d .output)
+  where
+    go : (x : Res (List ℕ)) → demoAt w h px (length out) ≡ x → r ≡ demoGiven x → out′ ≡ sets out 0 (listed x) → KeptIn w h px r out′
+    go (refuse n) q e g = subst (λ (a : DemoAnswer). KeptIn w h px a out′) (sym e) tt
+    go (ok u) q e g =
+        let l : 0 + length u ≤ length out = room w h px (length out) u q in
+        let f : take (length u) out′ ≡ u = ap (take (length u)) (g ∙ sets-eq u out 0 l) ∙ take-at u (drop (0 + length u) out) (length u) refl in
+        subst (λ (a : DemoAnswer). KeptIn w h px a out′) (sym e) (subst (Kept w h px) (sym f) (kept w h px (length out) u q))
+
+-- the equation with the claim, as the contract has both
+pub claimed : {w h : ℕ} {px out : List ℕ} {r : DemoAnswer} {out′ : List ℕ} → Written w h px out r out′ → Written w h px out r out′ × KeptIn w h px r out′
+claimed {w} {h} {px} {out} {r} {out′} d = (d, claim w h px out r out′ d)

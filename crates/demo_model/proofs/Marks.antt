@@ -10,9 +10,9 @@ use lib.Dec.{eqb}
 use borrow.Author.Tests.{eq-eqb, ne-eqb, lt-ltb, le-ltb, eqb-true, eqb-false}
 use Rattle.outcome.proofs.Laws.{either, le-or-lt}
 use Rattle.grammar.specs.Rows.{fills, paints}
-use Rattle.demo_model.specs.Codes.{Run, grow, runs, Mark, runSize, runMark, fillMark, cut, runMarks, lastMarks, marksOf, rowMarks}
+use Rattle.demo_model.specs.Codes.{Run, grow, runs, Mark, Proper, painted, runSize, runMark, fillMark, cut, runMarks, lastMarks, marksOf, rowMarks}
 use Rattle.demo_model.specs.Unit.{Four}
-use Rattle.demo_model.proofs.Read.{Proper, painted, Draws}
+use Rattle.demo_model.proofs.Read.{Draws}
 
 -- ---- A code of a run
 

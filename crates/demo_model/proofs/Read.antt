@@ -6,9 +6,9 @@ use mathlib.Core.List.{List, [], _∷_, _++_}
 use lib.ListN.{length, replicate, length-append, List·getD-append}
 use lib.Seq.{getD-append-add}
 use Rattle.grammar.specs.Bytes.{byte, nibble, nibbles}
-use Rattle.grammar.specs.Rows.{Code, code, paints, RowCodes, afterCodes}
+use Rattle.grammar.specs.Rows.{Code, paints, RowCodes, afterCodes}
 use Rattle.grammar.specs.Pixels.{rowPixels}
-use Rattle.demo_model.specs.Codes.{Mark, digits, nibblesOf}
+use Rattle.demo_model.specs.Codes.{Mark, placedCode, Proper, painted, digits, nibblesOf}
 
 -- ---- What nibbles spell
 
@@ -47,25 +47,9 @@ digits-read u p (suc k) v h s =
 
 -- ---- Marks that paint a row
 
--- a mark as a code at half byte p
-abbrev pub placedCode : ℕ → Mark → Code
-placedCode p m = code p (m .size) (m .value)
-
 unfoldable pub placed : ℕ → List Mark → List Code
 placed p [] = []
 placed p (m ∷ ms) = placedCode p m ∷ placed (p + m .size) ms
-
--- the conditions on a code that do not name its place
-pub record Proper (m : Mark) : Type 0 where
-  pub one : 1 ≤ m .size
-  pub four : m .size ≤ 4
-  pub most : m .value < 4 * 4 ^ m .size
-  pub least : m .size < 4 → 4 ^ m .size ≤ m .value
-  pub within : m .value < 16 ^ m .size
-
--- how many of `left` pixels a mark paints
-abbrev pub painted : ℕ → Mark → ℕ
-painted left m = paints left (placedCode 0 m)
 
 -- the marks paint the `left` pixels px to go
 unfoldable pub Draws : ℕ → List Mark → List ℕ → Type 0

@@ -1,14 +1,17 @@
 -- A picture is refused with a number of the table. Assumes nothing.
 use Prim.Native.Nat.{ℕ, _*_, _<_}
-use mathlib.Core.Path.{refl, _≡_}
+use native.Mathlib.Omega.{arith}
+use mathlib.Core.Path.{_≡_, refl, sym, _∙_}
 use mathlib.Core.Bool.{_&&_}
 use mathlib.Core.List.{List, [], _∷_}
 use lib.Dec.{leb, eqb}
 use lib.ListN.{length}
 use borrow.Author.Tests.{lt-leb}
-use Rattle.outcome.specs.Outcome.{ok, Numbered, bad-side, not-all-indices, bad-index, long-unit, short-output, refuse}
-use Rattle.outcome.proofs.Numbers.{in-table, check-numbered, andThen-numbered}
+use Rattle.outcome.specs.Outcome.{Res, ok, Numbered, bad-side, not-all-indices, bad-index, long-unit, short-output, refuse}
+use Rattle.outcome.proofs.Numbers.{not-0, in-table, check-numbered, andThen-numbered}
 use Rattle.demo_model.specs.Codes.{lastMarks}
+use Rattle.demo_model.specs.Answers.{demoGiven}
+use Rattle.demo_model.specs.declared.DemoAnswer.the-variants as demo-answer
 use Rattle.demo_model.specs.Unit.{unitOf, isSide, allColours, pictureOk, sizedUnit, demoAt}
 
 pub demo-numbered : (w h : ℕ) (px : List ℕ) (n : ℕ) → Numbered (demoAt w h px n)
@@ -20,6 +23,14 @@ demo-numbered w h px n =
     (check-numbered (allColours px) bad-index (ok tt) (in-table bad-index refl) tt)))
     (λ t. check-numbered (leb (length (unitOf lastMarks w h px)) 65535) long-unit _ (in-table long-unit refl)
     (check-numbered (leb (length (unitOf lastMarks w h px)) n) short-output (ok (unitOf lastMarks w h px)) (in-table short-output refl) tt))
+
+-- so no picture is refused with 0
+pub refused-not : (w h : ℕ) (px : List ℕ) (n k : ℕ) → demo-answer.Refused k ≡ demoGiven (demoAt w h px n) → k ≡ 0 → ⊥
+refused-not w h px n k e z = go (demoAt w h px n) (demo-numbered w h px n) e
+  where
+    go : (x : Res (List ℕ)) → Numbered x → demo-answer.Refused k ≡ demoGiven x → ⊥
+    go (ok u) i q = let y : _≡_ {A = ℕ} 0 1 = cc in omega arith
+    go (refuse m) i q = let y : k ≡ m = cc in not-0 m i (sym y ∙ z)
 
 -- each order of FORMAT 9 but that of 30 and 31: a picture and a length of output on which both are true, and the number that is given
 pub orders :

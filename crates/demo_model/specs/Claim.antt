@@ -1,20 +1,24 @@
 -- What the layer claims: a written unit reads back as the picture that was given. `proofs/Claim.antt` has it kept.
 -- Assumes nothing: these are definitions.
-use Prim.Native.Nat.{ℕ, _+_, _-_, _/_}
+use Prim.Native.Nat.{ℕ, _+_, _-_, _*_, _/_, _≤_}
 use mathlib.Core.Path.{_≡_}
 use mathlib.Core.Bool.{false}
 use mathlib.Core.Option.{some, none}
 use mathlib.Core.List.{List, []}
-use lib.ListN.{length}
+use lib.ListN.{length, take}
 use lib.Seq.{sets}
-use Rattle.grammar.specs.Record.{Told}
+use Rattle.grammar.specs.Record.{Told, told, width, height}
 use Rattle.grammar.specs.Picture.{ListedUnit, IsUnit}
-use Rattle.grammar.specs.Pixels.{indexMap}
+use Rattle.grammar.specs.Pixels.{indexMap, codesIn}
 use Rattle.control_model.specs.Answers.{spuOf}
+use Rattle.control_model.specs.declared.Spu.{Spu}
+use Rattle.spu_model.specs.Answers.{Decoded}
 use Rattle.spu_model.specs.declared.SpuAnswer.{SpuAnswer}
 use Rattle.spu_model.specs.declared.SpuAnswer.the-variants as spu-answer
-use Rattle.demo_model.specs.Codes.{lastMarks, marksIn, pictureRows}
+use Rattle.demo_model.specs.Codes.{lastMarks}
 use Rattle.demo_model.specs.Unit.{topNibbles}
+use Rattle.demo_model.specs.declared.DemoAnswer.{DemoAnswer}
+use Rattle.demo_model.specs.declared.DemoAnswer.the-variants as demo-answer
 
 -- what the commands of the control block tell, of a picture whose bottom field is at b
 abbrev pub writtenTold : ℕ → ℕ → ℕ → Told
@@ -31,14 +35,33 @@ writtenTold w h b =
       bands = [];
     }
 
--- what reading the unit into a lent map and words leaves: its size, as many codes as were written, every pixel, and no band
-pub record ReadsBack (w h : ℕ) (px map ws : List ℕ) (r : SpuAnswer) (map′ ws′ : List ℕ) : Type 0 where
-  pub answer : r ≡ spu-answer.Shows (spuOf (writtenTold w h (4 + length (topNibbles lastMarks w h px) / 2)) (marksIn lastMarks (pictureRows w h px)))
+-- what is listed of a written unit u: its width, height and map are the picture's, each as the listed commands and rows give it
+pub record Listed (w h : ℕ) (px u : List ℕ) (l : ListedUnit) : Type 0 where
+  pub listed : IsUnit u l
+  pub wide : width (told (l .blocks)) ≡ w
+  pub high : height (told (l .blocks)) ≡ h
+  pub picture : indexMap (width (told (l .blocks))) (l .rows) ≡ px
+
+-- what reading it into a map and words leaves: the size, the place 0 0, as many codes as are listed, every pixel, and no band
+pub record ReadsBack (w h : ℕ) (px : List ℕ) (l : ListedUnit) (map ws : List ℕ) (r : SpuAnswer) (map′ ws′ : List ℕ) : Type 0 where
+  pub says : Spu
+  pub shows : r ≡ spu-answer.Shows says
+  pub x1 : says .x1 ≡ 0
+  pub y1 : says .y1 ≡ 0
+  pub wide : says .x2 + 1 ≡ w
+  pub high : says .y2 + 1 ≡ h
+  pub codes : says .codes ≡ codesIn (l .rows)
+  pub others : says ≡ spuOf (writtenTold w h (4 + length (topNibbles lastMarks w h px) / 2)) (codesIn (l .rows))
   pub pixels : map′ ≡ sets map 0 px
   pub words : ws′ ≡ ws
 
--- the grammar has a reading of the unit u, and its map is the picture
-pub record Listed (w : ℕ) (px u : List ℕ) : Type 0 where
+-- the grammar lists the unit u as the picture, and reading it into any map that holds the picture gives it back
+pub record Kept (w h : ℕ) (px u : List ℕ) : Type 0 where
   pub list : ListedUnit
-  pub listed : IsUnit u list
-  pub picture : indexMap w (list .rows) ≡ px
+  pub lists : Listed w h px u list
+  pub reads : (map ws : List ℕ) → w * h ≤ length map → (r : SpuAnswer) (map′ ws′ : List ℕ) → Decoded u map ws r map′ ws′ → ReadsBack w h px list map ws r map′ ws′
+
+-- of every picture that is accepted, with the unit in the front of the output
+abbrev pub KeptIn : ℕ → ℕ → List ℕ → DemoAnswer → List ℕ → Type 0
+KeptIn w h px (demo-answer.Wrote n) out = Kept w h px (take n out)
+KeptIn w h px (demo-answer.Refused k) out = Unit {0}

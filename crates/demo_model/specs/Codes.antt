@@ -1,9 +1,10 @@
 -- The codes that are written for a row of pixels, and the nibbles that they make (FORMAT 7). Assumes nothing: these are definitions.
-use Prim.Native.Nat.{ℕ, zero, suc, _+_, _-_, _*_, _/_, _%_}
+use Prim.Native.Nat.{ℕ, zero, suc, _+_, _-_, _*_, _/_, _%_, _^_, _≤_, _<_}
 use mathlib.Core.Bool.{cond}
 use mathlib.Core.List.{List, [], _∷_, _++_}
 use lib.ListN.{length, take, drop}
 use lib.Dec.{eqb, ltb}
+use Rattle.grammar.specs.Rows.{Code, code, paints}
 
 -- ---- Runs
 
@@ -39,6 +40,22 @@ pub record Mark : Type 0 where
 
 abbrev pub mark : ℕ → ℕ → Mark
 mark k v = record { size = k; value = v }
+
+-- a mark as a code at half byte p
+abbrev pub placedCode : ℕ → Mark → Code
+placedCode p m = code p (m .size) (m .value)
+
+-- the conditions on a code that do not name its place
+pub record Proper (m : Mark) : Type 0 where
+  pub one : 1 ≤ m .size
+  pub four : m .size ≤ 4
+  pub most : m .value < 4 * 4 ^ m .size
+  pub least : m .size < 4 → 4 ^ m .size ≤ m .value
+  pub within : m .value < 16 ^ m .size
+
+-- how many of `left` pixels a mark paints
+abbrev pub painted : ℕ → Mark → ℕ
+painted left m = paints left (placedCode 0 m)
 
 -- the fewest nibbles for a run of n, 255 at most (FORMAT 7.3)
 abbrev pub runSize : ℕ → ℕ

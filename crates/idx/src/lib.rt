@@ -16,6 +16,7 @@ ghost use mathlib.Core.List.{List};
 ghost use Prim.Native.Nat.{ℕ, _<_, _+_, _^_, min};
 ghost use lib.IntN.{_-ℤ_};
 ghost use lib.ListN.{length};
+ghost use Rattle.idx_model.specs.Claim.{IdxSays, CueSays};
 ghost use Rattle.outcome.specs.Outcome.{ok, refuse, IsOk};
 ghost use Rattle.grammar.specs.IndexParts.{line-end};
 ghost use Rattle.grammar.specs.Index.{Said};
@@ -224,7 +225,7 @@ fn accepted_idx(seen: Seen, palette: [u8; 48]) -> IdxAnswer
 // refused, in turn with the other faults of its line and of the lines before it; on a refusal both buffers are as found.
 // Ruled out: a later fault answered, and a cue stored on a refusal.
 pub fn parse_idx(text: &[u8], starts: &mut [i64], positions: &mut [u64]) -> IdxAnswer
-    ensures { λ r. ⌜ IdxRead (now (text .entry)) (now (starts .entry)) (now (positions .entry)) r (now (starts .exit)) (now (positions .exit)) ⌝ }
+    ensures { λ r. ⌜ IdxRead (now (text .entry)) (now (starts .entry)) (now (positions .entry)) r (now (starts .exit)) (now (positions .exit)) × IdxSays (now (text .entry)) (now (starts .entry)) (now (positions .entry)) r (now (starts .exit)) (now (positions .exit)) ⌝ }
 {
     let room = shorter(starts.len(), positions.len());
     let mut palette = [0u8; 48];
@@ -303,7 +304,7 @@ fn picked_cue(seen: Seen, cue: usize, palette: [u8; 48]) -> CueAnswer
 // One cue of a text, without cue buffers: every line is checked all the same.
 // Ruled out: a text with a bad later line accepted, and a duration below 0.
 pub fn pick_cue(text: &[u8], cue: usize) -> CueAnswer
-    ensures { λ r. ⌜ r ≡ cueAnswer (pickOf (textOf (now (text .entry))) cue) ⌝ }
+    ensures { λ r. ⌜ (r ≡ cueAnswer (pickOf (textOf (now (text .entry))) cue)) × CueSays (now (text .entry)) cue r ⌝ }
 {
     let mut palette = [0u8; 48];
     match measure(text, 18446744073709551615, cue, &mut palette) {

@@ -71,25 +71,28 @@ fn store(palette: &mut [u8; 48], k: usize, v: u64)
     palette[3 * k + 2] = (v % 256) as u8;
 }
 
-// What follows `palette:`. The first 16 tokens are read, and the colours of those before a bad one are stored.
+// What follows `palette:`. The first 16 tokens are read; where one of them is bad the palette is as found.
 fn parse_palette(s: &[u8], palette: &mut [u8; 48]) -> Line
     ensures { λ r. ⌜ TokensRead (now (s .entry)) (now (palette .entry)) r (now (palette .exit)) ⌝ }
 {
+    let mut colours = *palette;
     let mut k: usize = 0;
     let mut i = 0;
     while k < 16 {
         let g = i + leading(&s[i..], Kind::Parting);
         if g >= s.len() {
+            *palette = colours;
             return Line::Coloured(k > 0);
         }
         let e = g + leading(&s[g..], Kind::Token);
         let Number::Is(v) = parse_hex(&s[g..e], 268435455) else {
             return Line::Refused(BAD_TOKEN);
         };
-        store(palette, k, v);
+        store(&mut colours, k, v);
         i = e;
         k += 1;
     }
+    *palette = colours;
     Line::Coloured(true)
 }
 
@@ -224,7 +227,7 @@ fn signed_at(s: &[u8], i: usize) -> Field
     Field::Bad
 }
 
-// The field that starts at place i; past the end it is missing, and 0. Signs stand before the digits among the bytes.
+// The field that starts at place i, or 0 where the time ended before it. A byte below the digits may be a sign.
 fn field_at(s: &[u8], i: usize) -> Field
     ensures { λ r. ⌜ FieldAt (now (s .entry)) i r ⌝ }
 {
@@ -303,7 +306,7 @@ fn parse_timestamp(s: &[u8]) -> Line
 }
 
 // A trimmed line. The palette has the colours of a palette line after it.
-// Ruled out: a colour of a token after the first bad one; a line whose word has other letters.
+// Ruled out: a colour of a line that is refused; a line whose word has other letters.
 pub fn read_line(l: &[u8], palette: &mut [u8; 48]) -> Line
     ensures { λ r. ⌜ LineRead (now (l .entry)) (now (palette .entry)) r (now (palette .exit)) ⌝ }
 {

@@ -13,16 +13,16 @@ use lib.Dec.{ltb}
 use borrow.Author.Tests.{lt-ltb}
 use Rattle.outcome.specs.Outcome.{Res, ok, refuse, bad-token, need, andThen}
 use Rattle.grammar.specs.Index.{top-token, palette}
-use Rattle.grammar.specs.IndexCues.{some-token, coloursOf}
+use Rattle.grammar.specs.IndexCues.{some-token, coloursOf, paletteFrom}
 use Rattle.grammar.specs.IndexNumbers.{Valued}
 use Rattle.grammar.specs.IndexParts.{parting, tokenByte}
 use Rattle.grammar.specs.Parts.{Part}
 use Rattle.idx_numbers_model.specs.Answers.{test, valueIn}
 use Rattle.idx_numbers_model.specs.Numbers.{hex}
 use Rattle.idx_numbers_model.specs.Parts.{part, front, rest}
-use Rattle.idx_lines_model.specs.Answers.{Value, coloured, lean, rgb, rgbThen, colourAnd, colours, TokensRead}
+use Rattle.idx_lines_model.specs.Answers.{Value, coloured, lean, rgb, paletteAfter, TokensRead}
 use Rattle.idx_lines_model.specs.Lines.{consWith, tokenAnd, tokens, paletteAt}
-use Rattle.outcome.proofs.Laws.{sets-append}
+use Rattle.outcome.proofs.Laws.{ok-not-refuse, sets-append}
 use Rattle.idx_numbers_model.proofs.Loops.{take-front, front-le, drop-front}
 use Rattle.idx_lines_model.proofs.Grammar.{cons-inv}
 use Rattle.idx_lines_model.specs.declared.Line.the-variants as line
@@ -74,8 +74,22 @@ said-cons t p v none = refl
 said-cons true p v (some ts) = refl
 said-cons false p v (some ts) = refl
 
--- the colours are those of the tokens, where all are good
-pub colours-are : (n at : ℕ) (s : List ℕ) (ts : List (Valued ℕ)) → tokens n at s ≡ some ts → colours n s ≡ coloursOf ts
+-- ---- The colours of the tokens before the first bad one, n at most: what the loop has stored when it ends
+
+abbrev pub rgbThen : Option ℕ → List ℕ → List ℕ
+rgbThen none cs = []
+rgbThen (some v) cs = rgb v ++ cs
+
+abbrev pub colourAnd : List ℕ → (List ℕ → List ℕ) → List ℕ
+colourAnd [] more = []
+colourAnd (b ∷ s) more = rgbThen (hex top-token (front tokenByte (b ∷ s))) (more (rest tokenByte (b ∷ s)))
+
+pub colours : ℕ → List ℕ → List ℕ
+colours zero s = []
+colours (suc n) s = colourAnd (rest parting s) (colours n)
+
+-- where all are good, they are the colours of the listed tokens
+colours-are : (n at : ℕ) (s : List ℕ) (ts : List (Valued ℕ)) → tokens n at s ≡ some ts → colours n s ≡ coloursOf ts
 unfolding tokens colours coloursOf
 colours-are zero at s ts e = let q : [] ≡ ts = cc in rw (← q)
 colours-are (suc n) at s ts e = go (colours-are n) (rest parting s) e
@@ -90,7 +104,7 @@ colours-are (suc n) at s ts e = go (colours-are n) (rest parting s) e
         ∙ ap (λ (l : List ℕ). rgb (c .0) ++ l) (ih (p .place + length (front tokenByte (b ∷ m))) (rest tokenByte (b ∷ m)) (c .1) (c .3))
         ∙ ap coloursOf (c .4)
 
--- k tokens were read, up to i, and their colours stored
+-- k tokens were read, up to i, and their colours stored in a copy of the palette
 pub record Colouring (s was now : List ℕ) (k i : ℕ) : Type 0 where
   pub few : k ≤ 16
   pub inside : i ≤ length s
@@ -104,6 +118,16 @@ or-false : (t : Bool) → ok (some (coloured t)) ≡ ok (some (coloured (t || fa
 or-false true = refl
 or-false false = refl
 
+-- where something is said, the copy has the colours of the listed tokens
+good : (s was now : List ℕ) (v : Value) → sets was 0 (colours 16 s) ≡ now → ((at : ℕ) → saidWith false (tokens 16 at s) ≡ ok (some v)) → (i : Part) (at : ℕ)
+    → now ≡ paletteAfter was (paletteAt i (part at s))
+unfolding paletteFrom
+good s was now v e f i at = go (tokens 16 at s) refl (f at)
+  where
+    go : (o : Option (List (Valued ℕ))) → tokens 16 at s ≡ o → saidWith false o ≡ ok (some v) → now ≡ paletteAfter was (andThen (need bad-token o) (λ ts. ok (some (palette i ts))))
+    go none q g = ok-not-refuse g
+    go (some ts) q g = sym e ∙ ap (sets was 0) (colours-are 16 at s ts q)
+
 pub colouring-full : (s was now : List ℕ) (k i : ℕ) → Colouring s was now k i → 16 ≤ k → TokensRead s was (line.Coloured true) now
 unfolding tokens colours
 colouring-full s was now k i h l =
@@ -111,8 +135,15 @@ colouring-full s was now k i h l =
     let p : ltb 0 k ≡ true = lt-ltb 0 k (omega arith) in
     record {
       says = λ j at. sym (rw (z, p) at (h .says at)) ∙ said-all j at s;
-      palette = sym (rw z at (h .stores));
+      palette = good s was now (coloured true) (rw z at (h .stores)) (λ at. rw (z, p) at (h .says at));
     }
+
+bad : (s was : List ℕ) (i : Part) (at : ℕ) → saidWith false (tokens 16 at s) ≡ refuse bad-token → was ≡ paletteAfter was (paletteAt i (part at s))
+bad s was i at f = go (tokens 16 at s) f
+  where
+    go : (o : Option (List (Valued ℕ))) → saidWith false o ≡ refuse bad-token → was ≡ paletteAfter was (andThen (need bad-token o) (λ ts. ok (some (palette i ts))))
+    go none g = refl
+    go (some ts) g = ok-not-refuse (sym g)
 
 module _ (s was now : List ℕ) (k i : ℕ) (h : Colouring s was now k i) (less : k < 16) (a : ℕ) (lead : a ≡ length (front (test Parting) (take (length s - i) (drop i s)))) where
   next : 16 - k ≡ suc (16 - (k + 1))
@@ -133,7 +164,7 @@ module _ (s was now : List ℕ) (k i : ℕ) (h : Colouring s was now k i) (less 
       let d : drop (i + a) s ≡ [] = drop-of-length-le s l in
       record {
         says = λ j at. or-false (ltb 0 k) ∙ sym (rw (next, after-gap, d) at (h .says at)) ∙ said-all j at s;
-        palette = sym (rw (next, after-gap, d) at (h .stores));
+        palette = good s was now (coloured (ltb 0 k)) (rw (next, after-gap, d) at (h .stores)) (λ at. rw (next, after-gap, d) at (h .says at) ∙ sym (or-false (ltb 0 k)));
       }
 
   module _ (l : i + a < length s) (b : ℕ) (lead′ : b ≡ length (front (test Token) (take (length s - (i + a)) (drop (i + a) s)))) where
@@ -173,11 +204,13 @@ module _ (s was now : List ℕ) (k i : ℕ) (h : Colouring s was now k i) (less 
           go : (x : List ℕ) → x ≡ getD s (i + a) 0 ∷ drop (suc (i + a)) s → colourAnd x (colours n) ≡ rgbThen (hex top-token (front tokenByte x)) (colours n (rest tokenByte x))
           go x e = rw e
 
-      pub colouring-wrong : m ≡ Bad → TokensRead s was (line.Refused bad-token) now
-      colouring-wrong e =
+      -- a bad token leaves the palette as it was
+      pub colouring-wrong : m ≡ Bad → (kept : List ℕ) → kept ≡ was → TokensRead s was (line.Refused bad-token) kept
+      colouring-wrong e kept q =
+          let f : (at : ℕ) → saidWith false (tokens 16 at s) ≡ refuse bad-token = λ at. h .says at ∙ rw (next, step (16 - (k + 1)) at, ← number, e) in
           record {
-            says = λ j at. sym (h .says at ∙ rw (next, step (16 - (k + 1)) at, ← number, e)) ∙ said-all j at s;
-            palette = sym (h .stores ∙ rw (next, hues (16 - (k + 1)), ← number, e));
+            says = λ j at. sym (f at) ∙ said-all j at s;
+            palette = λ j at. q ∙ bad s was j at (f at);
           }
 
       pub colouring-more : (v : ℕ) → m ≡ Is v → (new : List ℕ) → new ≡ sets now (3 * k) (rgb v) → Colouring s was new (k + 1) (i + a + b)

@@ -10,17 +10,16 @@ use mathlib.Core.List.{List, [], _∷_, _++_}
 use native.Mathlib.Omega.{arith}
 use lib.ListN.{length, take, drop, length-drop, getD, take-append-drop}
 use lib.Seq.{take-all, sets, drop-cons}
-use Rattle.outcome.specs.Outcome.{ok, bad-token}
+use Rattle.outcome.specs.Outcome.{Res, ok, refuse}
 use Rattle.grammar.specs.IndexNumbers.{Valued}
 use Rattle.grammar.specs.Index.{Said, size, palette, timestamp, size-word, palette-word, timestamp-word, filepos-word}
 use Rattle.grammar.specs.IndexParts.{letter-x}
 use Rattle.grammar.specs.Parts.{Part}
 use Rattle.idx_numbers_model.specs.Parts.{part, strip, moved, after, found, starts, all}
 use Rattle.idx_lines_model.proofs.Grammar.{given, SaysThis, line-is}
-use Rattle.idx_lines_model.proofs.Palettes.{colours-are}
 use Rattle.grammar.specs.IndexCues.{paletteFrom}
 use Rattle.outcome.proofs.Laws.{ok-injective}
-use Rattle.idx_lines_model.specs.Answers.{lean, lineSays, LineRead, TokensRead, colours, paletteAfter}
+use Rattle.idx_lines_model.specs.Answers.{lean, lineSays, oneOf, paletteAfter, LineRead, TokensRead}
 use Rattle.idx_lines_model.specs.Lines.{halves, sizeOr, tokens, paletteAt, timestampAt, lineOf}
 use Rattle.idx_numbers_model.proofs.Grammar.{strip-on, strip-is, never}
 use Rattle.idx_numbers_model.proofs.Steps.{found-is, starts-yes, starts-no, small-bytes, word-front, word-whole}
@@ -63,10 +62,23 @@ palette-apart-size : (l : List ℕ) → starts palette-word l ≡ true → start
 unfolding strip
 palette-apart-size l e = apart palette-word size-word l (λ r. refl) e
 
+-- what is no palette line says nothing of the palette
+other-colours : (was : List ℕ) (o : Option Said) (i : Part) → starts palette-word (i .bytes) ≡ false → SaysThis i o → was ≡ paletteFrom was (oneOf o)
+unfolding paletteFrom
+other-colours was none i e h = refl
+other-colours was (some (size l w h)) i e k = refl
+other-colours was (some (timestamp l ps fs n)) i e k = refl
+other-colours was (some (palette l ts)) i e k =
+    let q : starts palette-word (i .bytes) ≡ true = ap (λ (x : List ℕ). found (strip palette-word x)) (k .2 .whole) ∙ ap found (strip-on palette-word (k .1 .bytes)) in
+    never (cc)
+
 module _ (l was : List ℕ) where
-  same-palette : starts palette-word l ≡ false → was ≡ paletteAfter was l
-  unfolding paletteAfter
-  same-palette e = rw e
+  same-palette : starts palette-word l ≡ false → (at : ℕ) → was ≡ paletteAfter was (lineOf (part at l))
+  same-palette e at = go (lineOf (part at l)) refl
+    where
+      go : (x : Res (Option Said)) → lineOf (part at l) ≡ x → was ≡ paletteAfter was x
+      go (ok o) q = other-colours was o (part at l) e (line-is (part at l) o q)
+      go (refuse n) q = refl
 
   module _ (a : Bool) (ea : a ≡ starts timestamp-word l) where
     pub line-timestamp : a ≡ true → (r : Line) → ((i : Part) (at : ℕ) → lineSays r ≡ lean (timestampAt i (part at (take (length l - 10) (drop 10 l))))) → LineRead l was r was
@@ -80,12 +92,12 @@ module _ (l was : List ℕ) where
 
     module _ (na : a ≡ false) (b : Bool) (eb : b ≡ starts palette-word l) where
       pub line-palette : b ≡ true → (r : Line) (now : List ℕ) → TokensRead (take (length l - 8) (drop 8 l)) was r now → LineRead l was r now
-      unfolding lineOf paletteAfter
+      unfolding lineOf
       line-palette f r now e =
           let y : starts palette-word l ≡ true = sym eb ∙ f in
           record {
             says = λ at. e .says (part at l) (at + 8) ∙ rw (same-rest 8 l, after-no size-word l at (palette-apart-size l y), after-yes palette-word l at y);
-            palette = e .palette ∙ rw (same-rest 8 l, y);
+            palette = λ at. e .palette (part at l) (at + 8) ∙ rw (same-rest 8 l, after-no size-word l at (palette-apart-size l y), after-yes palette-word l at y);
           }
 
       module _ (nb : b ≡ false) (c : Bool) (ec : c ≡ starts size-word l) where
@@ -104,36 +116,6 @@ module _ (l was : List ℕ) where
               says = λ at. rw (after-no size-word l at (sym ec ∙ f), after-no palette-word l at (sym eb ∙ nb), after-no timestamp-word l at (sym ea ∙ na));
               palette = same-palette (sym eb ∙ nb);
             }
-
--- ---- the palette after a line is what the listed line gives
-abbrev pub oneOf : Option Said → List Said
-oneOf none = []
-oneOf (some l) = l ∷ []
-
-other-colours : (was : List ℕ) (o : Option Said) (i : Part) → starts palette-word (i .bytes) ≡ false → SaysThis i o → was ≡ paletteFrom was (oneOf o)
-unfolding paletteFrom
-other-colours was none i e h = refl
-other-colours was (some (size l w h)) i e k = refl
-other-colours was (some (timestamp l ps fs n)) i e k = refl
-other-colours was (some (palette l ts)) i e k =
-    let q : starts palette-word (i .bytes) ≡ true = ap (λ (x : List ℕ). found (strip palette-word x)) (k .2 .whole) ∙ ap found (strip-on palette-word (k .1 .bytes)) in
-    never (cc)
-
-pub palette-after : (l was : List ℕ) (at : ℕ) (o : Option Said) → lineOf (part at l) ≡ ok o → paletteAfter was l ≡ paletteFrom was (oneOf o)
-unfolding paletteAfter lineOf paletteFrom
-palette-after l was at o e = go (starts palette-word l) refl
-  where
-    coloured : (ts : List (Valued ℕ)) → tokens 16 (at + 8) (drop 8 l) ≡ some ts → ok (some (palette (part at l) ts)) ≡ ok o
-        → sets was 0 (colours 16 (drop 8 l)) ≡ paletteFrom was (oneOf o)
-    coloured ts q f = ap (sets was 0) (colours-are 16 (at + 8) (drop 8 l) ts q) ∙ ap (λ (x : Option Said). paletteFrom was (oneOf x)) (ok-injective f)
-
-    go : (t : Bool) → starts palette-word l ≡ t → cond t (sets was 0 (colours 16 (drop 8 l))) was ≡ paletteFrom was (oneOf o)
-    go true y =
-        let a : after size-word (part at l) ≡ none = after-no size-word l at (palette-apart-size l y) in
-        let b : after palette-word (part at l) ≡ some (part (at + 8) (drop 8 l)) = after-yes palette-word l at y in
-        let f : paletteAt (part at l) (part (at + 8) (drop 8 l)) ≡ ok o = rw (a, b) at e in
-        given bad-token (tokens 16 (at + 8) (drop 8 l)) _ f (λ ts q g. coloured ts q g)
-    go false y = other-colours was o (part at l) y (line-is (part at l) o e)
 
 -- ---- the words that are tested as numbers
 -- `timestamp:` by its first eight letters, and two more

@@ -12,7 +12,7 @@ use Rattle.outcome.specs.Outcome.{Res, ok, refuse, check, need, andThen, mapRes
 use Rattle.grammar.specs.Parts.{Part}
 use Rattle.grammar.specs.IndexParts.{parting, tokenByte, unlike, colon}
 use Rattle.grammar.specs.Index.{Said, size, palette, timestamp, palette-word, top-token, startOf}
-use Rattle.grammar.specs.IndexCues.{some-token}
+use Rattle.grammar.specs.IndexCues.{some-token, paletteFrom}
 use Rattle.idx_numbers_model.specs.Parts.{part, front, rest, trimmed, split, starts}
 use Rattle.idx_numbers_model.specs.Numbers.{digits, signed, hex, positionOf}
 use Rattle.idx_lines_model.specs.Lines.{paletteAt, fields, steps, firstOf, lastOf, isFilepos, isOther, partsAt, lineOf}
@@ -169,29 +169,22 @@ positionWith z s = positionThen z (positionOf (trimmed s))
 abbrev pub rgb : ℕ → List ℕ
 rgb v = v / 65536 % 256 ∷ v / 256 % 256 ∷ v % 256 ∷ []
 
-abbrev pub rgbThen : Option ℕ → List ℕ → List ℕ
-rgbThen none cs = []
-rgbThen (some v) cs = rgb v ++ cs
+-- what a line lists: itself, where it says something
+abbrev pub oneOf : Option Said → List Said
+oneOf none = []
+oneOf (some l) = l ∷ []
 
--- the colours of the tokens before the first bad one, n at most
-abbrev pub colourAnd : List ℕ → (List ℕ → List ℕ) → List ℕ
-colourAnd [] more = []
-colourAnd (b ∷ s) more = rgbThen (hex top-token (front tokenByte (b ∷ s))) (more (rest tokenByte (b ∷ s)))
-
-unfoldable pub colours : ℕ → List ℕ → List ℕ
-colours zero s = []
-colours (suc n) s = colourAnd (rest parting s) (colours n)
-
--- the palette after the line l: a palette line sets the colours of its good tokens
-unfoldable pub paletteAfter : List ℕ → List ℕ → List ℕ
-paletteAfter was l = cond (starts palette-word l) (sets was 0 (colours 16 (drop 8 l))) was
+-- the palette after a line: as the listed line gives it, and as it was where the line is refused
+abbrev pub paletteAfter : List ℕ → Res (Option Said) → List ℕ
+paletteAfter was (ok o) = paletteFrom was (oneOf o)
+paletteAfter was (refuse n) = was
 
 -- what reading the tokens of s leaves
 pub record TokensRead (s was : List ℕ) (r : Line) (now : List ℕ) : Type 0 where
   pub says : (i : Part) (at : ℕ) → lineSays r ≡ lean (paletteAt i (part at s))
-  pub palette : now ≡ sets was 0 (colours 16 s)
+  pub palette : (i : Part) (at : ℕ) → now ≡ paletteAfter was (paletteAt i (part at s))
 
 -- what reading the trimmed line l leaves
 pub record LineRead (l was : List ℕ) (r : Line) (now : List ℕ) : Type 0 where
   pub says : (at : ℕ) → lineSays r ≡ lean (lineOf (part at l))
-  pub palette : now ≡ paletteAfter was l
+  pub palette : (at : ℕ) → now ≡ paletteAfter was (lineOf (part at l))

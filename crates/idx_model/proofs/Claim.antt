@@ -112,3 +112,11 @@ module _ (text : List ℕ) (n : ℕ) (r : CueAnswer) (h : r ≡ cueAnswer (pickO
     );
     same = λ ls k c f. picked ls (text-one none text ls k tt) c f .1;
   }
+
+-- the equations with the claims, as the contracts have both
+pub idx-claimed : {text : List ℕ} {starts : List ℤ} {positions : List ℕ} {r : IdxAnswer} {starts′ : List ℤ} {positions′ : List ℕ}
+    → IdxRead text starts positions r starts′ positions′ → IdxRead text starts positions r starts′ positions′ × IdxSays text starts positions r starts′ positions′
+idx-claimed {text} {starts} {positions} {r} {starts′} {positions′} d = (d, idx-claim text starts positions r starts′ positions′ d)
+
+pub cue-claimed : (text : List ℕ) (n : ℕ) {r : CueAnswer} → r ≡ cueAnswer (pickOf (textOf text) n) → (r ≡ cueAnswer (pickOf (textOf text) n)) × CueSays text n r
+cue-claimed text n {r} d = (d, cue-claim text n r d)

@@ -23,10 +23,9 @@ use Rattle.idx_numbers_model.specs.Parts.{part, front, all, trim, trimmed, spli
 use Rattle.idx_numbers_model.proofs.Grammar.{never}
 use Rattle.idx_numbers_model.proofs.Steps.{last-part, next-part, part-in}
 use Rattle.idx_lines_model.specs.Lines.{lineOf}
-use Rattle.idx_lines_model.specs.Answers.{Value, valueOf, lean, lineSays, LineRead}
+use Rattle.idx_lines_model.specs.Answers.{Value, valueOf, lean, lineSays, LineRead, oneOf, paletteAfter}
 use Rattle.idx_lines_model.specs.declared.Line.{Line}
 use Rattle.idx_lines_model.specs.declared.Line.the-variants as line
-use Rattle.idx_lines_model.proofs.Words.{oneOf, palette-after}
 use Rattle.idx_model.specs.Text.{orNone, cuesIn, roomFor, linesIn, lowByte, textIn}
 use Rattle.idx_model.specs.Answers.{nothing-seen, seeSize, seePalette, seeCue, seeValue, seeAll, seeLine, MeasuredAs}
 use Rattle.idx_model.specs.declared.Seen.{Seen}
@@ -229,7 +228,7 @@ module _ (text : List ℕ) (i n : ℕ) (inside : i ≤ length text) (lead : n �
       says at = ap (λ (p : Part). seeLine cue room seen (lean (lineOf p))) (bytes-of at) ∙ ap (seeLine cue room seen) (sym (read .says (trim (part at (take (i + n - i) (drop i text))) .place))) ∙ sym told
 
       hues : (at : ℕ) (o : Option Said) → lineOf (trim (part at (take (i + n - i) (drop i text)))) ≡ ok o → new ≡ paletteFrom now (oneOf o)
-      hues at o e = read .palette ∙ palette-after l now (trim (part at (take (i + n - i) (drop i text))) .place) o (ap lineOf (sym (bytes-of at)) ∙ e)
+      hues at o e = read .palette (trim (part at (take (i + n - i) (drop i text))) .place) ∙ ap (paletteAfter now) (ap lineOf (sym (bytes-of at)) ∙ e)
 
       -- the line at i, and the lines ps after it
       head-refused : (ps : List Part) → split line-end (0 + i) (drop i text) ≡ part (0 + i) (take (i + n - i) (drop i text)) ∷ ps → (k : ℕ) → r ≡ measured.Refused k

@@ -39,15 +39,19 @@ pub fn past_nibble(field: &[u8], pos: usize) -> usize
     pos
 }
 
-// The first count from pos on that starts a byte; a count past the end stays.
-// Ruled out: an even count moved; a count past the end moved.
+// The first count from pos on that starts a byte; the largest count has none after it, and stays.
+// Ruled out: an even count moved; an odd one that stays because the field has ended.
 pub fn on_byte(field: &[u8], pos: usize) -> usize
-    ensures { λ r. ⌜ r ≡ onByte (now (field .entry)) pos ⌝ }
+    ensures { λ r. ⌜ r ≡ onByte pos ⌝ }
 {
+    // rows are aligned inside the field, where no count is the largest
     if pos / 2 < field.len() {
         return pos + pos % 2;
     }
-    pos
+    if pos == 18446744073709551615 {
+        return pos;
+    }
+    pos + pos % 2
 }
 
 impl<'a> NibbleReader<'a> {
@@ -74,7 +78,7 @@ impl<'a> NibbleReader<'a> {
     // An odd count goes to the next even one.
     // Ruled out: another field left in the reader; a whole byte skipped at an even count.
     pub fn align(&mut self)
-        ensures { λ _. ⌜ (now (self .exit) .buf ≡ now (self .entry) .buf) × (now (self .exit) .pos ≡ onByte (now (now (self .entry) .buf)) (now (self .entry) .pos)) ⌝ }
+        ensures { λ _. ⌜ (now (self .exit) .buf ≡ now (self .entry) .buf) × (now (self .exit) .pos ≡ onByte (now (self .entry) .pos)) ⌝ }
     {
         self.pos = on_byte(self.buf, self.pos);
     }
@@ -93,7 +97,7 @@ pub fn read_through(field: &[u8], pos: usize) -> Nibble
 // The count to which a reader at half byte pos aligns, in the same way.
 // Ruled out: the count after a read; pos whatever it is.
 pub fn align_through(field: &[u8], pos: usize) -> usize
-    ensures { λ r. ⌜ r ≡ onByte (now (field .entry)) pos ⌝ }
+    ensures { λ r. ⌜ r ≡ onByte pos ⌝ }
 {
     let mut reader = NibbleReader { buf: field, pos };
     reader.align();

@@ -14,6 +14,7 @@ ghost use Prim.Native.Nat.{_≤_, _<_, _+_, _-_};
 ghost use lib.Dec.{ltb};
 ghost use lib.ListN.{length, take, drop};
 ghost use lib.Seq.{sets, slice};
+ghost use Rattle.ps_model.specs.Claim.{Says};
 ghost use Rattle.outcome.specs.Outcome.{ok};
 ghost use Rattle.grammar.specs.Bytes.{byte, word};
 ghost use Rattle.grammar.specs.Packets.{Packet, packets, unitOf, subpicture};
@@ -142,7 +143,7 @@ fn bare_size(file: &[u8], at: usize) -> usize
 // The unit at a position: in the file, or in the front of scratch, which is as found otherwise.
 // Ruled out: scratch written before the last packet is known to be whole; a unit that packets give read from the file's own bytes.
 pub fn extract_spu(file: &[u8], position: usize, scratch: &mut [u8]) -> UnitAnswer
-    ensures { λ r. ⌜ Extracted (now (file .entry)) position (now (scratch .entry)) r (now (scratch .exit)) ⌝ }
+    ensures { λ r. ⌜ Extracted (now (file .entry)) position (now (scratch .entry)) r (now (scratch .exit)) × Says (now (file .entry)) position (now (scratch .entry)) (now (scratch .exit)) r ⌝ }
 {
     if file.len() <= position {
         return UnitAnswer::Refused(PAST_FILE);

@@ -68,3 +68,7 @@ module _ (f : List ℕ) (p : ℕ) where
       go (ok m) q e g = subst (Says f p s s′) (sym e) (said m (holds m q g))
       go (refuse n) q e g =
           subst (Says f p s s′) (sym e) (g, λ m l i k. ok-not-refuse (sym q ∙ unit-complete (length s) m (form-iff subpicture f p m .1 (l, i)) k))
+
+-- the equation with the claim, as the contract has both
+pub claimed : {f : List ℕ} {p : ℕ} {s : List ℕ} {r : UnitAnswer} {s′ : List ℕ} → Extracted f p s r s′ → Extracted f p s r s′ × Says f p s s′ r
+claimed {f} {p} {s} {r} {s′} d = (d, claim f p s r s′ d)

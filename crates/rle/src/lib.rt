@@ -14,6 +14,7 @@ ghost use lib.ListN.{length, replicate, set, take};
 ghost use lib.Seq.{sets};
 ghost use lib.Dec.{leb};
 ghost use Rattle.outcome.specs.Outcome.{IsOk, listed};
+ghost use Rattle.rle_model.specs.Claim.{Says};
 ghost use Rattle.rle_model.specs.Codes.{rowAt, fieldAt};
 ghost use Rattle.rle_model.specs.Field.{paintField};
 ghost use Rattle.rle_model.specs.Kept.{keptRun, leftAfter, placeAfter, paintKept, KeptFits};
@@ -348,7 +349,7 @@ pub fn decode_rle_field(
     start_row: usize,
     pixels: &mut [u8],
 ) -> FieldAnswer
-    ensures { λ r. ⌜ Decoded (now (field .entry)) width height «start_row» (now (pixels .entry)) r (now (pixels .exit)) ⌝ }
+    ensures { λ r. ⌜ Decoded (now (field .entry)) width height «start_row» (now (pixels .entry)) r (now (pixels .exit)) × Says (now (field .entry)) width height «start_row» (now (pixels .entry)) (now (pixels .exit)) r ⌝ }
 {
     if holds(pixels.len(), width, height) {
         return decode_rows(field, width, height, start_row, pixels);

@@ -1,5 +1,5 @@
 -- Closed inputs on which each edit of this crate's definitions gives another value. Assumes nothing.
-use Prim.Native.Nat.{ℕ}
+use Prim.Native.Nat.{ℕ, _-_, _^_}
 use mathlib.Core.Path.{_≡_, refl}
 use mathlib.Core.Bool.{false}
 use mathlib.Core.List.{[], _∷_}
@@ -50,8 +50,8 @@ pub field-started : fieldsAt (0 ∷ 80 ∷ []) 1 2 0 0 false 1 1 ≡ ok ((code 2
 unfolding fieldsAt lowerAt fieldAt rowAt codeAt codeFrom rowsFrom weave listFrom listFuel nibble nibbles paints afterCodes align
 field-started = refl
 
--- align on a field of one byte: a count at a byte stays, and one inside it goes to the next
-pub counts-aligned : onByte (0 ∷ []) 0 ∷ onByte (0 ∷ []) 1 ∷ [] ≡ 0 ∷ 2 ∷ []
+-- a count at a byte stays, one inside it goes to the next, and the largest stays
+pub counts-aligned : onByte 0 ∷ onByte 1 ∷ onByte (2 ^ 64 - 1) ∷ [] ≡ 0 ∷ 2 ∷ 18446744073709551615 ∷ []
 unfolding align
 counts-aligned = refl
 

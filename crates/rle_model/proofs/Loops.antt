@@ -1,5 +1,5 @@
 -- One turn of each loop, over plain variables, and what each answer says of the definitions. Assumes nothing.
-use Prim.Native.Nat.{ℕ, zero, suc, zero-le, _+_, _-_, _*_, _/_, _%_, _≤_, _<_}
+use Prim.Native.Nat.{ℕ, zero, suc, zero-le, _+_, _-_, _*_, _/_, _%_, _≤_, _<_, _^_}
 use native.Mathlib.Nat.{suc-mul, zero-mul, mul-comm, mul-le-mul-right, le-mul-of-pos-right, lt-of-le-of-lt, add-mul, mul-assoc, le-div-iff-mul-le}
 use native.Mathlib.Omega.{arith, not-le}
 use mathlib.Core.Path.{_≡_, refl, sym, ap, _∙_, subst}
@@ -178,8 +178,8 @@ rowed u e w p b x q = go (rowAt u e w p) refl q
         }
 
 -- a reader that stands after a row aligns to the next byte
-pub row-aligned : (u : List ℕ) (w p : ℕ) (b : Counts) (x : Cursor) → Rowed u (length u) w p b x → 0 < w → (r : ℕ) → r ≡ onByte u (x .pos) → r ≡ align (x .pos)
-row-aligned u w p b x g h r q = q ∙ on-byte u (x .pos) (omega (arith, g .goes, g .inside h))
+pub row-aligned : (u : List ℕ) (w p : ℕ) (b : Counts) (x : Cursor) → length u * 1 < 2 ^ 63 → Rowed u (length u) w p b x → 0 < w → (r : ℕ) → r ≡ onByte (x .pos) → r ≡ align (x .pos)
+row-aligned u w p b x f g h r q = q ∙ on-byte u (x .pos) f (omega (arith, g .goes, g .inside h))
 
 pub unrowed : (u : List ℕ) (e w p n : ℕ) → row-answer.Refused n ≡ rowAnswer w p (rowAt u e w p) → rowAt u e w p ≡ refuse n
 unrowed u e w p n q = go (rowAt u e w p) refl q

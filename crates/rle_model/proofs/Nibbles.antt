@@ -1,5 +1,5 @@
 -- A half-byte count is inside a field of n bytes exactly where its byte is, and what an answer of reading a nibble says. Assumes nothing.
-use Prim.Native.Nat.{ℕ, _+_, _*_, _/_, _%_, _<_, _≤_}
+use Prim.Native.Nat.{ℕ, _+_, _-_, _*_, _/_, _%_, _^_, _<_, _≤_}
 use mathlib.Core.Path.{_≡_, refl}
 use mathlib.Core.Bool.{Bool, true, false, cond}
 use mathlib.Core.List.{List}
@@ -44,11 +44,14 @@ ran-out s p n q = go (ltb p (2 * length s)) refl q
     go true h q′ = let z : _≡_ {A = ℕ} 0 1 = cc in absurd (omega arith)
     go false h q′ = (ltb-false _ _ h, cc)
 
--- in a field, and at its end, to align is to go to the next byte
-pub on-byte : (s : List ℕ) (p : ℕ) → p ≤ 2 * length s → onByte s p ≡ align p
+-- in a field, and at its end, to align is to go to the next byte: no count there is the largest
+pub on-byte : (s : List ℕ) (p : ℕ) → length s * 1 < 2 ^ 63 → p ≤ 2 * length s → onByte p ≡ align p
+on-byte s p f h = let n : p ≡ 2 ^ 64 - 1 → ⊥ = λ z. omega arith in rw (ne-eqb p (2 ^ 64 - 1) n)
+
+-- an odd count that is not the largest goes on by one, and an even one stays
+pub on-byte-next : (p : ℕ) → (p ≡ 2 ^ 64 - 1 → ⊥) → p + p % 2 ≡ onByte p
 unfolding align
-on-byte s p h = go (ltb p (2 * length s)) refl
-  where
-    go : (t : Bool) → ltb p (2 * length s) ≡ t → cond t (p + p % 2) p ≡ p + p % 2
-    go true q = refl
-    go false q = let z = ltb-false p (2 * length s) q in omega arith
+on-byte-next p n = rw (ne-eqb p (2 ^ 64 - 1) n)
+
+pub on-byte-last : (p : ℕ) → p ≡ 2 ^ 64 - 1 → p ≡ onByte p
+on-byte-last p e = rw (eq-eqb p (2 ^ 64 - 1) e)

@@ -1,5 +1,5 @@
 -- Codes kept as one 16-bit number each, from measuring a field to filling its rows, so that no nibble is read twice.
--- A way of working inside this layer, which no public answer speaks of. Assumes nothing: these are definitions.
+-- The steps `measure_kept` and `fill_measured` speak of them, and no entry does. Assumes nothing: these are definitions.
 use Prim.Native.Nat.{ℕ, zero, suc, _+_, _-_, _*_, _/_, _%_, _≤_}
 use mathlib.Core.List.{List, [], _∷_, _++_}
 use lib.ListN.{replicate}

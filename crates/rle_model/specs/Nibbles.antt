@@ -1,8 +1,8 @@
 -- What the reader of nibbles finds at a half-byte count of a field, and the counts that it goes to. Assumes nothing: these are definitions.
-use Prim.Native.Nat.{ℕ, _+_, _*_}
+use Prim.Native.Nat.{ℕ, _+_, _-_, _*_, _^_}
 use mathlib.Core.Bool.{cond}
 use mathlib.Core.List.{List}
-use lib.Dec.{ltb}
+use lib.Dec.{eqb, ltb}
 use lib.ListN.{length}
 use Rattle.outcome.specs.Outcome.{Res, ok, refuse, check, field-ran-out}
 use Rattle.grammar.specs.Bytes.{nibble}
@@ -23,6 +23,6 @@ nibbleAnswer (refuse n) = Refused n
 abbrev pub pastNibble : List ℕ → ℕ → ℕ
 pastNibble s p = cond (ltb p (2 * length s)) (p + 1) p
 
--- the first count from p on that starts a byte (FORMAT 5.6); one past the end stays
-abbrev pub onByte : List ℕ → ℕ → ℕ
-onByte s p = cond (ltb p (2 * length s)) (align p) p
+-- the first count from p on that starts a byte (FORMAT 5.6); the largest of 64 bits, after which there is none, stays (FORMAT 5.10)
+abbrev pub onByte : ℕ → ℕ
+onByte p = cond (eqb p (2 ^ 64 - 1)) p (align p)

@@ -13,6 +13,7 @@ ghost use mathlib.Core.Path.{_≡_};
 ghost use Prim.Native.Nat.{_≤_, _<_, _-_, _+_, _*_};
 ghost use mathlib.Core.List.{List};
 ghost use lib.ListN.{length};
+ghost use Rattle.spu_model.specs.Claim.{Says, Measures};
 ghost use Rattle.grammar.specs.Control.{Block};
 ghost use Rattle.grammar.specs.Record.{Told, told, width, height};
 ghost use Rattle.grammar.specs.Picture.{topEnd};
@@ -139,7 +140,7 @@ fn with_codes(spu: Spu, codes: usize) -> Spu
 // A unit's record and the number of its codes, with no map and no words.
 // Ruled out: a record of a unit whose rows are not all there; the number of one field's codes.
 pub fn measure_spu(unit: &[u8]) -> SpuAnswer
-    ensures { λ r. ⌜ r ≡ spuAnswer (unitAt (now (unit .entry))) ⌝ }
+    ensures { λ r. ⌜ (r ≡ spuAnswer (unitAt (now (unit .entry)))) × Measures (now (unit .entry)) r ⌝ }
 {
     match control::parse_control(unit) {
         ControlAnswer::Tells(spu) => match measure_rows(unit, spu) {
@@ -186,7 +187,7 @@ pub fn decode_told(unit: &[u8], spu: Spu, pixels: &mut [u8], words: &mut [u16]) 
 // found.
 // Ruled out: rows painted before the last is known to be whole; a row without codes left as found instead of 0.
 pub fn parse_and_decode_spu(unit: &[u8], pixels: &mut [u8], words: &mut [u16]) -> SpuAnswer
-    ensures { λ r. ⌜ Decoded (now (unit .entry)) (now (pixels .entry)) (now (words .entry)) r (now (pixels .exit)) (now (words .exit)) ⌝ }
+    ensures { λ r. ⌜ Decoded (now (unit .entry)) (now (pixels .entry)) (now (words .entry)) r (now (pixels .exit)) (now (words .exit)) × Says (now (unit .entry)) (now (pixels .entry)) (now (words .entry)) (now (pixels .exit)) (now (words .exit)) r ⌝ }
 {
     match control::parse_control(unit) {
         ControlAnswer::Tells(spu) => decode_told(unit, spu, pixels, words),

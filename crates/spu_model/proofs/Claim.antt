@@ -54,3 +54,10 @@ measures u r d = go (unitAt u) refl d
     go : (x : Res ListedUnit) → unitAt u ≡ x → r ≡ spuAnswer x → Measures u r
     go (ok l) q e = subst (Measures u) (sym e) (l, unit-iff u l .0 q, refl)
     go (refuse n) q e = subst (Measures u) (sym e) (λ l i. ok-not-refuse (sym q ∙ unit-iff u l .1 i))
+
+-- the equation with the claim, as the contract has both
+pub claimed : {u px ws : List ℕ} {r : SpuAnswer} {px′ ws′ : List ℕ} → Decoded u px ws r px′ ws′ → Decoded u px ws r px′ ws′ × Says u px ws px′ ws′ r
+claimed {u} {px} {ws} {r} {px′} {ws′} d = (d, claim u px ws r px′ ws′ d)
+
+pub measures-claimed : (u : List ℕ) {r : SpuAnswer} → r ≡ spuAnswer (unitAt u) → (r ≡ spuAnswer (unitAt u)) × Measures u r
+measures-claimed u {r} d = (d, measures u r d)

@@ -2,6 +2,7 @@
 use borrow.Author.Needs.{needs}
 use native.Mathlib.Omega.{arith}
 use mathlib.Core.Path.{sym, _∙_}
+use Rattle.bands_model.proofs.Claim.{claimed}
 use Rattle.bands_model.proofs.Loops.{stored-words, stored-short, stored-none}
 use Rattle.chg_colcon.proofs.parse_chg_colcon_payload.Statement.{statement}
 use Rattle.chg_colcon.proofs.parse_chg_colcon_payload.Tie as tie
@@ -25,7 +26,7 @@ returns : tie.Need-returns
 returns c =
     let h = c .before .before .before .before .if2 .taken in
     let k = c .before .before .before .before .before .if1 .taken in
-    stored-words _ _ _ _ _ _ (sym (c .before .before .before .before .before .before .before .before .before .count-words .ensures) ∙ c .before .before .before .before .before .before .before .n .given .1) (omega arith) (c .before .before .read-list .ensures)
+    claimed (stored-words _ _ _ _ _ _ (sym (c .before .before .before .before .before .before .before .before .before .count-words .ensures) ∙ c .before .before .before .before .before .before .before .n .given .1) (omega arith) (c .before .before .read-list .ensures))
 
 enum-known-number : tie.Need-enum-known-number
 enum-known-number c = search needs
@@ -34,15 +35,15 @@ returns-2 : tie.Need-returns-2
 returns-2 c =
     let h = c .if2 .left in
     let k = c .before .if1 .taken in
-    stored-short _ _ _ _ (sym (c .before .before .before .before .before .count-words .ensures) ∙ c .before .before .before .n .given .1) (omega arith)
+    claimed (stored-short _ _ _ _ (sym (c .before .before .before .before .before .count-words .ensures) ∙ c .before .before .before .n .given .1) (omega arith))
 
 returns-3 : tie.Need-returns-3
 returns-3 c =
     let h = c .if1 .left in
-    stored-short _ _ _ _ (sym (c .before .before .before .before .count-words .ensures) ∙ c .before .before .n .given .1) (omega arith)
+    claimed (stored-short _ _ _ _ (sym (c .before .before .before .before .count-words .ensures) ∙ c .before .before .n .given .1) (omega arith))
 
 returns-4 : tie.Need-returns-4
-returns-4 c = stored-none _ _ _ _ (sym (c .before .before .before .count-words .ensures) ∙ c .before .number .given .1)
+returns-4 c = claimed (stored-none _ _ _ _ (sym (c .before .before .before .count-words .ensures) ∙ c .before .number .given .1))
 
 pub parse-chg-colcon-payload-spec : {M : Type 1} → statement M
 parse-chg-colcon-payload-spec =

@@ -1,5 +1,6 @@
 -- `idx::parse_idx` meets its contract: measured first, stored after. Assumes nothing.
 use borrow.Author.Needs.{needs}
+use Rattle.idx_model.proofs.Claim.{idx-claimed}
 use Rattle.idx_model.proofs.Whole.{idx-refused, idx-is-ok, idx-accepted}
 use Rattle.idx.proofs.parse_idx.Statement.{statement}
 use Rattle.idx.proofs.parse_idx.Tie as tie
@@ -26,7 +27,7 @@ accepted-idx-requires : tie.Need-accepted-idx-requires
 accepted-idx-requires c κs = search needs
 
 returns : tie.Need-returns
-returns c = idx-refused (c .before .before .before .before .before .before .before .before .before .args .text .now) (c .before .before .before .before .before .before .before .before .before .args .starts .now) (c .before .before .before .before .before .before .before .before .before .args .positions .now) (c .before .before .before .before .before .before .shorter .result) (c .before .before .before .before .before .before .shorter .ensures) (c .before .before .before .before .measure .result) _ (c .before .before .before .before .measure .ensures) _ (c .before .before .number .given .1) (c .refused-idx .result) (c .refused-idx .ensures)
+returns c = idx-claimed (idx-refused (c .before .before .before .before .before .before .before .before .before .args .text .now) (c .before .before .before .before .before .before .before .before .before .args .starts .now) (c .before .before .before .before .before .before .before .before .before .args .positions .now) (c .before .before .before .before .before .before .shorter .result) (c .before .before .before .before .before .before .shorter .ensures) (c .before .before .before .before .measure .result) _ (c .before .before .before .before .measure .ensures) _ (c .before .before .number .given .1) (c .refused-idx .result) (c .refused-idx .ensures))
 
 same-length : tie.Need-same-length
 same-length c = search needs
@@ -35,7 +36,7 @@ same-length-2 : tie.Need-same-length-2
 same-length-2 c = search needs
 
 returns-2 : tie.Need-returns-2
-returns-2 c = idx-accepted (c .before .before .before .before .before .before .before .before .before .before .before .before .before .before .before .args .text .now) (c .before .before .before .before .before .before .before .before .before .before .before .before .before .before .before .args .starts .now) (c .before .before .before .before .before .before .before .before .before .before .before .before .before .before .before .args .positions .now) (c .before .before .before .before .before .before .before .before .before .before .before .before .shorter .result) (c .before .before .before .before .before .before .before .before .before .before .before .before .shorter .ensures) (c .before .before .before .before .before .before .before .before .before .before .measure .result) _ (c .before .before .before .before .before .before .before .before .before .before .measure .ensures) _ (c .before .before .before .before .before .before .before .before .seen .given .1) (c .accepted-idx .result) (c .accepted-idx .ensures) _ _ (c .before .before .before .before .fill .ensures)
+returns-2 c = idx-claimed (idx-accepted (c .before .before .before .before .before .before .before .before .before .before .before .before .before .before .before .args .text .now) (c .before .before .before .before .before .before .before .before .before .before .before .before .before .before .before .args .starts .now) (c .before .before .before .before .before .before .before .before .before .before .before .before .before .before .before .args .positions .now) (c .before .before .before .before .before .before .before .before .before .before .before .before .shorter .result) (c .before .before .before .before .before .before .before .before .before .before .before .before .shorter .ensures) (c .before .before .before .before .before .before .before .before .before .before .measure .result) _ (c .before .before .before .before .before .before .before .before .before .before .measure .ensures) _ (c .before .before .before .before .before .before .before .before .seen .given .1) (c .accepted-idx .result) (c .accepted-idx .ensures) _ _ (c .before .before .before .before .fill .ensures))
 
 pub parse-idx-spec : {M : Type 1} → statement M
 parse-idx-spec =

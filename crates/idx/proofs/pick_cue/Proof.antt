@@ -1,6 +1,7 @@
 -- `idx::pick_cue` meets its contract: measured, and the cue picked from what was seen. Assumes nothing.
 use borrow.Author.Needs.{needs}
 use native.Mathlib.Omega.{arith}
+use Rattle.idx_model.proofs.Claim.{cue-claimed}
 use Rattle.idx_model.proofs.Whole.{cue-refused, cue-picked}
 use Rattle.idx.proofs.pick_cue.Statement.{statement}
 use Rattle.idx.proofs.pick_cue.Tie as tie
@@ -21,10 +22,10 @@ picked-cue-requires : tie.Need-picked-cue-requires
 picked-cue-requires c κs = search needs
 
 returns : tie.Need-returns
-returns c = cue-refused (c .before .before .before .before .before .before .before .args .text .now) (c .before .before .before .before .before .before .before .args .cue) 18446744073709551615 (omega (arith, c .before .before .before .before .before .before .before .good .0 .1)) (c .before .before .before .before .measure .result) _ (c .before .before .before .before .measure .ensures) _ (c .before .before .number .given .1) (c .refused-cue .result) (c .refused-cue .ensures)
+returns c = cue-claimed _ _ (cue-refused (c .before .before .before .before .before .before .before .args .text .now) (c .before .before .before .before .before .before .before .args .cue) 18446744073709551615 (omega (arith, c .before .before .before .before .before .before .before .good .0 .1)) (c .before .before .before .before .measure .result) _ (c .before .before .before .before .measure .ensures) _ (c .before .before .number .given .1) (c .refused-cue .result) (c .refused-cue .ensures))
 
 returns-2 : tie.Need-returns-2
-returns-2 c = cue-picked (c .before .before .before .before .before .before .before .args .text .now) (c .before .before .before .before .before .before .before .args .cue) 18446744073709551615 (omega (arith, c .before .before .before .before .before .before .before .good .0 .1)) (c .before .before .before .before .measure .result) _ (c .before .before .before .before .measure .ensures) _ (c .before .before .seen .given .1) (c .picked-cue .result) (c .picked-cue .ensures)
+returns-2 c = cue-claimed _ _ (cue-picked (c .before .before .before .before .before .before .before .args .text .now) (c .before .before .before .before .before .before .before .args .cue) 18446744073709551615 (omega (arith, c .before .before .before .before .before .before .before .good .0 .1)) (c .before .before .before .before .measure .result) _ (c .before .before .before .before .measure .ensures) _ (c .before .before .seen .given .1) (c .picked-cue .result) (c .picked-cue .ensures))
 
 pub pick-cue-spec : {M : Type 1} → statement M
 pick-cue-spec =

@@ -81,7 +81,7 @@ module _ {M : Type 1} (𝓤 : URA M) (H : Heap 𝓤) (A : Atoms 𝓤) (W : Given
   h = lent.h 𝓤 H A W κ s p p-fits
 
   abbrev found : ℕ
-  found = onByte (now s) p
+  found = onByte p
 
   abbrev Post : Val → SProp 𝓤
   Post = walkOf 𝓤 H A align-through.ended stayed (align-through.clauses 𝓤 H A at-mem run) .post (((κ, tt), (q, tt), tt, arg, at), tt)

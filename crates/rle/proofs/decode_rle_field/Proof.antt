@@ -3,6 +3,7 @@ use mathlib.Core.Path.{sym, _∙_}
 use borrow.Author.Tests.{leb-true}
 use borrow.Author.Needs.{needs}
 use Rattle.rle_model.proofs.Loops.{decoded-short}
+use Rattle.rle_model.proofs.Claim.{claimed}
 use Rattle.rle.proofs.decode_rle_field.Statement.{statement}
 use Rattle.rle.proofs.decode_rle_field.Tie as tie
 
@@ -16,10 +17,10 @@ same-length : tie.Need-same-length
 same-length c = search needs
 
 returns : tie.Need-returns
-returns c = search needs
+returns c = claimed (c .before .before .decode-rows .ensures)
 
 returns-2 : tie.Need-returns-2
-returns-2 c = decoded-short _ _ _ _ _ (sym (c .before .holds .ensures) ∙ c .if1 .left)
+returns-2 c = claimed (decoded-short _ _ _ _ _ (sym (c .before .holds .ensures) ∙ c .if1 .left))
 
 pub decode-rle-field-spec : {M : Type 1} → statement M
 decode-rle-field-spec =

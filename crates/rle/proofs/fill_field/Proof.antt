@@ -66,7 +66,7 @@ loop-again c =
     let i = c .before .before .before .before .before .before .loop in
     let f = c .before .before .before .fill-row in
     let h = c .before .before .before .before .before .loop-test .taken in
-    let a = c .align-through .ensures ∙ on-byte (now (c .before .before .before .before .before .before .before .before .before .before .args .field)) _ (ends (c .before)) in
+    let a = c .align-through .ensures ∙ on-byte (now (c .before .before .before .before .before .before .before .before .before .before .args .field)) _ (c .before .before .before .before .before .before .before .before .before .before .good .0 .1) (ends (c .before)) in
     record {
       wide = i .inv .wide;
       room = omega (arith, mul-pred (i .left) (2 * c .before .before .before .before .before .before .before .before .before .before .args .width) h, i .inv .room);

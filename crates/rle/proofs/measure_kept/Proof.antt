@@ -71,7 +71,7 @@ loop-again c =
     let g = got (c .before .before) in
     let b = c .before .plus-counts .ensures in
     let r = c .before .before .before .before .before .before .before .measure-row in
-    let a = row-aligned _ _ _ _ _ g (i .inv .wide) _ (c .align-through .ensures) in
+    let a = row-aligned _ _ _ _ _ (c .before .before .before .before .before .before .before .before .before .before .before .before .before .before .good .0 .1) g (i .inv .wide) _ (c .align-through .ensures) in
     record {
       wide = i .inv .wide;
       few = rw (b, a, g .goes) (at-most-align _ _ (g .few _ (i .inv .few)));

@@ -1,6 +1,7 @@
 -- `spu::measure_spu` meets its contract: the control blocks, then the rows. Assumes nothing.
 use borrow.Author.Needs.{needs}
 use mathlib.Core.Path.{sym, _∙_}
+use Rattle.spu_model.proofs.Claim.{measures-claimed}
 use Rattle.spu_model.proofs.Loops.{told-by, refused-by, measured-refused, measured-shows, measured-stops}
 use Rattle.spu.proofs.measure_spu.Statement.{statement}
 use Rattle.spu.proofs.measure_spu.Tie as tie
@@ -29,15 +30,15 @@ enum-known-number-2 c = search needs
 returns : tie.Need-returns
 returns c =
     let k = told-by _ _ (sym (c .before .before .before .before .before .before .spu .given .1) ∙ c .before .before .before .before .before .before .before .before .parse-control .ensures) in
-    measured-shows _ (k .0) (k .1) _ _ (sym (c .before .before .counts .given .1) ∙ c .before .before .before .before .measure-rows .ensures (k .0) (k .1)) (c .with-codes .ensures _ (k .2))
+    measures-claimed _ (measured-shows _ (k .0) (k .1) _ _ (sym (c .before .before .counts .given .1) ∙ c .before .before .before .before .measure-rows .ensures (k .0) (k .1)) (c .with-codes .ensures _ (k .2)))
 
 returns-2 : tie.Need-returns-2
 returns-2 c =
     let k = told-by _ _ (sym (c .before .before .before .before .before .spu .given .1) ∙ c .before .before .before .before .before .before .before .parse-control .ensures) in
-    measured-stops _ (k .0) (k .1) _ (sym (c .before .number .given .1) ∙ c .before .before .before .measure-rows .ensures (k .0) (k .1))
+    measures-claimed _ (measured-stops _ (k .0) (k .1) _ (sym (c .before .number .given .1) ∙ c .before .before .before .measure-rows .ensures (k .0) (k .1)))
 
 returns-3 : tie.Need-returns-3
-returns-3 c = measured-refused _ _ (refused-by _ _ (sym (c .before .number2 .given .1) ∙ c .before .before .before .parse-control .ensures))
+returns-3 c = measures-claimed _ (measured-refused _ _ (refused-by _ _ (sym (c .before .number2 .given .1) ∙ c .before .before .before .parse-control .ensures)))
 
 pub measure-spu-spec : {M : Type 1} → statement M
 measure-spu-spec =

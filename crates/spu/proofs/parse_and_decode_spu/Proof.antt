@@ -1,6 +1,7 @@
 -- `spu::parse_and_decode_spu` meets its contract: the control blocks, then the rest. Assumes nothing.
 use borrow.Author.Needs.{needs}
 use mathlib.Core.Path.{sym, _∙_}
+use Rattle.spu_model.proofs.Claim.{claimed}
 use Rattle.spu_model.proofs.Loops.{told-by, refused-by, decoded-refused}
 use Rattle.spu.proofs.parse_and_decode_spu.Statement.{statement}
 use Rattle.spu.proofs.parse_and_decode_spu.Tie as tie
@@ -24,10 +25,10 @@ same-length-2 : tie.Need-same-length-2
 same-length-2 c = search needs
 
 returns : tie.Need-returns
-returns c = search needs
+returns c = claimed (c .before .before .before .before .decode-told .ensures)
 
 returns-2 : tie.Need-returns-2
-returns-2 c = decoded-refused _ _ _ _ (refused-by _ _ (sym (c .before .number .given .1) ∙ c .before .before .before .parse-control .ensures))
+returns-2 c = claimed (decoded-refused _ _ _ _ (refused-by _ _ (sym (c .before .number .given .1) ∙ c .before .before .before .parse-control .ensures)))
 
 pub parse-and-decode-spu-spec : {M : Type 1} → statement M
 parse-and-decode-spu-spec =

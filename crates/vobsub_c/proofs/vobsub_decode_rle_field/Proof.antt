@@ -29,13 +29,13 @@ same-length : tie.Need-same-length
 same-length c = search needs
 
 returns : tie.Need-returns
-returns c = given _ _ _ _ _ _ _ _ _ (c .before .counts .given .1) (c .before .before .before .before .before .decode-rle-field .ensures)
+returns c = given _ _ _ _ _ _ _ _ _ (c .before .counts .given .1) (c .before .before .before .before .before .decode-rle-field .ensures .0)
 
 same-length-2 : tie.Need-same-length-2
 same-length-2 c = search needs
 
 returns-2 : tie.Need-returns-2
-returns-2 c = given _ _ _ _ _ _ _ _ _ (c .before .number .given .1) (c .before .before .before .before .before .decode-rle-field .ensures)
+returns-2 c = given _ _ _ _ _ _ _ _ _ (c .before .number .given .1) (c .before .before .before .before .before .decode-rle-field .ensures .0)
 
 pub vobsub-decode-rle-field-spec : {M : Type 1} → statement M
 vobsub-decode-rle-field-spec =

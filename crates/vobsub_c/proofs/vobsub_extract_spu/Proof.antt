@@ -32,19 +32,19 @@ same-length : tie.Need-same-length
 same-length c = search needs
 
 returns : tie.Need-returns
-returns c = given _ _ _ _ _ _ _ _ (c .before .n .given .1) (c .before .before .before .before .before .extract-spu .ensures)
+returns c = given _ _ _ _ _ _ _ _ (c .before .n .given .1) (c .before .before .before .before .before .extract-spu .ensures .0)
 
 same-length-2 : tie.Need-same-length-2
 same-length-2 c = search needs
 
 returns-2 : tie.Need-returns-2
-returns-2 c = given _ _ _ _ _ _ _ _ (c .before .n2 .given .1) (c .before .before .before .before .before .extract-spu .ensures)
+returns-2 c = given _ _ _ _ _ _ _ _ (c .before .n2 .given .1) (c .before .before .before .before .before .extract-spu .ensures .0)
 
 same-length-3 : tie.Need-same-length-3
 same-length-3 c = search needs
 
 returns-3 : tie.Need-returns-3
-returns-3 c = given _ _ _ _ _ _ _ _ (c .before .number .given .1) (c .before .before .before .before .before .extract-spu .ensures)
+returns-3 c = given _ _ _ _ _ _ _ _ (c .before .number .given .1) (c .before .before .before .before .before .extract-spu .ensures .0)
 
 pub vobsub-extract-spu-spec : {M : Type 1} → statement M
 vobsub-extract-spu-spec =

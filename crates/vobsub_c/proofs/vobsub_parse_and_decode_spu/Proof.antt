@@ -35,7 +35,7 @@ same-length-2 : tie.Need-same-length-2
 same-length-2 c = search needs
 
 returns : tie.Need-returns
-returns c = given _ _ _ _ _ _ _ _ _ (c .before .before .s .given .1) (c .before .before .before .before .before .before .before .before .parse-and-decode-spu .ensures) (c .numbers-of .ensures)
+returns c = given _ _ _ _ _ _ _ _ _ (c .before .before .s .given .1) (c .before .before .before .before .before .before .before .before .parse-and-decode-spu .ensures .0) (c .numbers-of .ensures)
 
 same-length-3 : tie.Need-same-length-3
 same-length-3 c = search needs
@@ -44,7 +44,7 @@ same-length-4 : tie.Need-same-length-4
 same-length-4 c = search needs
 
 returns-2 : tie.Need-returns-2
-returns-2 c = given _ _ _ _ _ _ _ _ _ (c .before .number .given .1) (c .before .before .before .before .before .before .before .parse-and-decode-spu .ensures) refl
+returns-2 c = given _ _ _ _ _ _ _ _ _ (c .before .number .given .1) (c .before .before .before .before .before .before .before .parse-and-decode-spu .ensures .0) refl
 
 pub vobsub-parse-and-decode-spu-spec : {M : Type 1} → statement M
 vobsub-parse-and-decode-spu-spec =

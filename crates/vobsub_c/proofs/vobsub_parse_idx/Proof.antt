@@ -55,7 +55,7 @@ same-length-2 c = search needs
 
 returns : tie.Need-returns
 returns c =
-    accepted _ _ _ _ _ _ _ _ (c .before .before .before .before .before .before .before .parse-idx .ensures) (c .before .before .if1 .taken) _ (c .idx-numbers-of .ensures)
+    accepted _ _ _ _ _ _ _ _ (c .before .before .before .before .before .before .before .parse-idx .ensures .0) (c .before .before .if1 .taken) _ (c .idx-numbers-of .ensures)
 
 same-length-3 : tie.Need-same-length-3
 same-length-3 c = search needs
@@ -64,7 +64,7 @@ same-length-4 : tie.Need-same-length-4
 same-length-4 c = search needs
 
 returns-2 : tie.Need-returns-2
-returns-2 c = declined _ _ _ _ _ _ _ _ (c .before .before .before .before .before .parse-idx .ensures) (c .if1 .left)
+returns-2 c = declined _ _ _ _ _ _ _ _ (c .before .before .before .before .before .parse-idx .ensures .0) (c .if1 .left)
 
 pub vobsub-parse-idx-spec : {M : Type 1} → statement M
 vobsub-parse-idx-spec =

@@ -49,10 +49,10 @@ cue-numbers-of-requires : tie.Need-cue-numbers-of-requires
 cue-numbers-of-requires c κs = search needs
 
 returns : tie.Need-returns
-returns c = accepted _ _ _ _ _ _ (c .before .before .before .before .before .pick-cue .ensures) (c .before .before .before .if1 .taken) _ (toZ-ofZ {w = w64} (record { sfits = c .before .before .struct-told .given .1 .0 .1 })) _ (c .cue-numbers-of .ensures)
+returns c = accepted _ _ _ _ _ _ (c .before .before .before .before .before .pick-cue .ensures .0) (c .before .before .before .if1 .taken) _ (toZ-ofZ {w = w64} (record { sfits = c .before .before .struct-told .given .1 .0 .1 })) _ (c .cue-numbers-of .ensures)
 
 returns-2 : tie.Need-returns-2
-returns-2 c = declined _ _ _ _ _ _ (c .before .before .pick-cue .ensures) (c .if1 .left)
+returns-2 c = declined _ _ _ _ _ _ (c .before .before .pick-cue .ensures .0) (c .if1 .left)
 
 pub vobsub-pick-cue-spec : {M : Type 1} → statement M
 vobsub-pick-cue-spec = tie.close (tie.spec pick-cue-requires cue-numbers-of-requires returns returns-2)

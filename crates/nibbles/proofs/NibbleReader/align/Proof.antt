@@ -90,7 +90,7 @@ module _ {M : Type 1} (𝓤 : URA M) (H : Heap 𝓤) (A : Atoms 𝓤) (W : Given
   v = sliceVal (h .buf .ptr) (length (h .buf .now))
 
   abbrev next : ℕ
-  next = onByte (now (h .buf)) (h .pos)
+  next = onByte (h .pos)
 
   abbrev Post : Val → SProp 𝓤
   Post = walkOf 𝓤 H A align.ended stayed (align.clauses 𝓤 H A at-mem run) .post (((κ, (κ′, tt)), (q, (q′, tt)), bounds, x, at), tt)

@@ -1,0 +1,117 @@
+-- The final theorems. Each takes what the contract of a function says, an equation for its answer and for the last content of what was lent, and
+-- gives what that means in the grammar's words. Assumes nothing.
+use Prim.Native.Nat.{ℕ, _≤_, _<_}
+use mathlib.Core.Path.{_≡_}
+use mathlib.Core.Bool.{Bool}
+use mathlib.Core.List.{List}
+use lib.ListN.{length}
+use lib.IntN.{ℤ}
+use Rattle.grammar.specs.Bands.{Band, Bands}
+use Rattle.grammar.specs.Index.{Said, IsText}
+use Rattle.grammar.specs.IndexCues.{Cue}
+use Rattle.grammar.specs.Packets.{Form, IsForm}
+use Rattle.grammar.specs.Picture.{ListedUnit, IsUnit}
+use Rattle.grammar.specs.Reading.{Wanted}
+use Rattle.grammar.specs.Rows.{Code, FieldRows}
+use Rattle.grammar.proofs.Unique.{field-unique, bands-unique}
+use Rattle.grammar.proofs.UniqueControl.{unit-unique}
+use Rattle.grammar.proofs.UniqueIndex.{text-unique}
+use Rattle.grammar.proofs.UniquePackets.{form-unique}
+use Rattle.rle_model.specs.declared.FieldAnswer.{FieldAnswer}
+use Rattle.rle_model.specs.Answers as field
+use Rattle.rle_model.specs.Claim as field-claim
+use Rattle.rle_model.proofs.Claim as field-proof
+use Rattle.bands_model.specs.declared.BandAnswer.{BandAnswer}
+use Rattle.bands_model.specs.Answers.{Stored}
+use Rattle.bands_model.specs.Claim as bands-claim
+use Rattle.bands_model.proofs.Claim as bands-proof
+use Rattle.ps_model.specs.declared.UnitAnswer.{UnitAnswer}
+use Rattle.ps_model.specs.Answers.{Extracted}
+use Rattle.ps_model.specs.Claim as ps-claim
+use Rattle.ps_model.proofs.Claim as ps-proof
+use Rattle.idx_model.specs.declared.IdxAnswer.{IdxAnswer}
+use Rattle.idx_model.specs.declared.CueAnswer.{CueAnswer}
+use Rattle.idx_model.specs.Text.{textOf}
+use Rattle.idx_model.specs.Answers.{IdxRead, pickOf, cueAnswer}
+use Rattle.idx_model.specs.Claim.{IdxSays, CueSays}
+use Rattle.idx_model.proofs.Claim.{idx-claim, cue-claim}
+use Rattle.spu_model.specs.declared.SpuAnswer.{SpuAnswer}
+use Rattle.spu_model.specs.Unit.{unitAt}
+use Rattle.spu_model.specs.Answers as unit
+use Rattle.spu_model.specs.Claim as unit-claim
+use Rattle.spu_model.proofs.Claim as unit-proof
+use Rattle.demo_model.specs.declared.DemoAnswer.{DemoAnswer}
+use Rattle.demo_model.specs.Answers as demo
+use Rattle.demo_model.specs.Codes.{Mark, Proper, painted, runSize}
+use Rattle.demo_model.specs.Claim.{KeptIn}
+use Rattle.demo_model.proofs.Marks.{shortest}
+use Rattle.demo_model.proofs.Claim as demo-proof
+use Rattle.vobsub_model.specs.declared.CanvasAnswer.{CanvasAnswer}
+use Rattle.vobsub_model.specs.Call.{Lent}
+use Rattle.vobsub_model.specs.Answers.{CuePainted}
+use Rattle.vobsub_model.specs.Claim.{Exactly}
+use Rattle.vobsub_model.proofs.Claim as vobsub-proof
+use Rattle.listing_model.specs.Title.{cueLine}
+use Rattle.listing_model.specs.Answers as listing
+use Rattle.listing_model.proofs.Claim as listing-proof
+
+-- Whole files (`decode_cue`): a canvas is given exactly where the files have a reading for the cue and the buffers are long enough, no files have
+-- two readings for one cue, and times, origin, size, number of codes and every byte of the canvas are the reading's.
+pub whole-files : (text file : List ℕ) (q : Wanted) (b : Lent) (r : CanvasAnswer) (b′ : Lent) → CuePainted text file q b r b′ → Exactly text file q b r b′
+whole-files text file q b r b′ d = vobsub-proof.claim text file q b r b′ d
+
+-- A unit (`parse_and_decode_spu`, `measure_spu`): a record is given exactly where the grammar lists the unit and map and words are long enough.
+pub a-unit : (u px ws : List ℕ) (r : SpuAnswer) (px′ ws′ : List ℕ) → unit.Decoded u px ws r px′ ws′ → unit-claim.Says u px ws px′ ws′ r
+a-unit u px ws r px′ ws′ d = unit-proof.claim u px ws r px′ ws′ d
+
+pub a-unit-measured : (u : List ℕ) (r : SpuAnswer) → r ≡ unit.spuAnswer (unitAt u) → unit-claim.Measures u r
+a-unit-measured u r d = unit-proof.measures u r d
+
+pub one-unit : (u : List ℕ) (a b : ListedUnit) → IsUnit u a → IsUnit u b → a ≡ b
+one-unit = unit-unique
+
+-- A position (`extract_spu`): a unit is found exactly where the grammar lists one there, bare or in packets, and scratch is long enough.
+pub a-position : (f : List ℕ) (p : ℕ) (s : List ℕ) (r : UnitAnswer) (s′ : List ℕ) → Extracted f p s r s′ → ps-claim.Says f p s s′ r
+a-position f p s r s′ d = ps-proof.claim f p s r s′ d
+
+pub one-position : (id : ℕ → Bool) (f : List ℕ) (p : ℕ) (a b : Form) → IsForm id f p a → IsForm id f p b → a ≡ b
+one-position = form-unique
+
+-- A field (`decode_rle_field`): it is accepted exactly where the grammar lists its rows and the map holds the picture.
+pub a-field : (s : List ℕ) (w h start : ℕ) (px : List ℕ) (r : FieldAnswer) (px′ : List ℕ) → field.Decoded s w h start px r px′ → field-claim.Says s w h start px px′ r
+a-field s w h start px r px′ d = field-proof.claim s w h start px r px′ d
+
+pub one-field : (u : List ℕ) (e w p : ℕ) (a b : List (List Code)) → length a ≡ length b → FieldRows u e w p a → FieldRows u e w p b → a ≡ b
+one-field = field-unique
+
+-- A payload of colour bands (`parse_chg_colcon_payload`): it is accepted exactly where the grammar lists bands and the words hold them.
+pub a-payload : (s : List ℕ) (at : ℕ) (ws : List ℕ) (r : BandAnswer) (ws′ : List ℕ) → Stored s at ws r ws′ → bands-claim.Says s at ws ws′ r
+a-payload s at ws r ws′ d = bands-proof.claim s at ws r ws′ d
+
+pub one-payload : (u : List ℕ) (e p : ℕ) (a b : List Band) → Bands u e p a → Bands u e p b → a ≡ b
+one-payload = bands-unique
+
+-- An index text (`parse_idx`), and one cue of it (`pick_cue`): accepted exactly where the grammar lists its lines and there is room for its cues,
+-- and where these have the cue; all that is given is the listed lines'.
+pub a-text : (text : List ℕ) (starts : List ℤ) (positions : List ℕ) (r : IdxAnswer) (starts′ : List ℤ) (positions′ : List ℕ)
+    → IdxRead text starts positions r starts′ positions′ → IdxSays text starts positions r starts′ positions′
+a-text = idx-claim
+
+pub a-cue : (text : List ℕ) (n : ℕ) (r : CueAnswer) → r ≡ cueAnswer (pickOf (textOf text) n) → CueSays text n r
+a-cue = cue-claim
+
+pub one-text : (text : List ℕ) (a b : List Said) → IsText text a → IsText text b → a ≡ b
+one-text = text-unique
+
+-- The writer (`build_demo_spu`): for every picture that it accepts the grammar lists the unit with that width, height and map, and reading the
+-- unit gives them back.
+pub a-picture : (w h : ℕ) (px out : List ℕ) (r : DemoAnswer) (out′ : List ℕ) → demo.Written w h px out r out′ → KeptIn w h px r out′
+a-picture = demo-proof.claim
+
+-- No code of fewer nibbles than the one that it writes for a run paints just that run, where more of the row is left.
+pub shortest-code : (left n : ℕ) (m : Mark) → 1 ≤ n → n ≤ 255 → n < left → Proper m → painted left m ≡ n → runSize n ≤ m .size
+shortest-code = shortest
+
+-- A line of the list program (`cue_line`): it is not refused exactly where the files have a reading for the cue, and then has its values.
+pub a-line : (cs : List Cue) (f : List ℕ) (n : ℕ) (l l′ : List ℕ) (r : ℕ) → listing.Written (cueLine cs f n) l r l′ → listing.Exactly cs f n l l′
+a-line cs f n l l′ r d = listing-proof.claim cs f n l l′ r d

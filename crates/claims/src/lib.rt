@@ -1,0 +1,1 @@
+// The final theorems on one page (proofs/Claims.antt): there is no code here.
