@@ -26,7 +26,7 @@ use Rattle.rle_model.specs.Nibbles.{nibbleAt, nibbleAnswer, pastNibble, onByte}
 use Rattle.rle_model.specs.declared.Nibble.{Nibble}
 use Rattle.rle_model.specs.declared.Nibble.the-variants.{Is, Refused}
 use Rattle.rle_model.specs.Field.{decoded, paintField}
-use Rattle.rle_model.specs.Answers.{fieldCounts}
+use Rattle.rle_model.specs.Answers.{nothing, fieldCounts}
 use Rattle.control_model.specs.Chain.{command}
 use Rattle.control_model.specs.Answers.{spuOf}
 use Rattle.control_model.specs.declared.Spu.{Spu}
@@ -112,7 +112,7 @@ blocks =
 abbrev pub fieldsOf : Spu → List ℕ
 fieldsOf s =
     s .x1 ∷ s .y1 ∷ s .x2 ∷ s .y2 ∷ s .«palette_sel» ∷ s .alpha ∷ cond (s .started) 1 0 ∷ s .«start_delay_raw» ∷ cond (s .stopped) 1 0 ∷ s .«stop_delay_raw»
-    ∷ cond (s .«forced_display») 1 0 ∷ s .«top_rle_off» ∷ s .«bot_rle_off» ∷ cond (s .«saw_chg_colcon») 1 0 ∷ s .«band_words» ∷ s .codes ∷ []
+    ∷ cond (s .«forced_display») 1 0 ∷ s .«top_rle_off» ∷ s .«bot_rle_off» ∷ cond (s .«saw_chg_colcon») 1 0 ∷ s .«band_words» ∷ s .counts .codes ∷ []
 
 -- a signed number: 1 where it is below 0, and how far it is from 0
 abbrev pub whole : ℤ → List ℕ
@@ -223,8 +223,8 @@ bytes =
     ∷ card (held (0x00 ∷ 0x00 ∷ 0x01 ∷ 0xBD ∷ 0x00 ∷ 0x06 ∷ 0x80 ∷ 0x00 ∷ 0x00 ∷ 0x20 ∷ 0x00 ∷ 0x00 ∷ [])) (15 ∷ [])
     ∷ card (found []) (12 ∷ [])
     -- each value of what was told in its field of the record
-    ∷ card (fieldsOf (spuOf (told blocks) 13)) (1 ∷ 2 ∷ 3 ∷ 4 ∷ 11 ∷ 12 ∷ 1 ∷ 7 ∷ 1 ∷ 9 ∷ 1 ∷ 5 ∷ 6 ∷ 1 ∷ 3 ∷ 13 ∷ [])
-    ∷ card (fieldsOf (spuOf (told []) 0)) (replicate 16 0)
+    ∷ card (fieldsOf (spuOf (told blocks) (record { codes = 13 }))) (1 ∷ 2 ∷ 3 ∷ 4 ∷ 11 ∷ 12 ∷ 1 ∷ 7 ∷ 1 ∷ 9 ∷ 1 ∷ 5 ∷ 6 ∷ 1 ∷ 3 ∷ 13 ∷ [])
+    ∷ card (fieldsOf (spuOf (told []) nothing)) (replicate 16 0)
     -- positions `10` and `10000000000000000`; 2562047788 hours stand, 2562047789 do not; `-1` is an hour before 0 (FORMAT 1.7, 1.8)
     ∷ card (position (49 ∷ 48 ∷ [])) (0 ∷ 16 ∷ [])
     ∷ card (position (49 ∷ replicate 16 48)) (0 ∷ 10000000000000000 ∷ [])

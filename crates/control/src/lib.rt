@@ -10,6 +10,7 @@ use outcome::NO_AREA;
 use outcome::NO_HEAD;
 use outcome::SMALL_SIZE;
 use outcome::UNKNOWN_COMMAND;
+use rle_model::Counts;
 ghost use mathlib.Core.Path.{_≡_};
 ghost use Prim.Native.Nat.{ℕ, _≤_, _<_, _+_, _*_, _/_, _%_, _^_};
 ghost use lib.ListN.{length};
@@ -21,6 +22,7 @@ ghost use Rattle.grammar.specs.Control.{forced-start, start, stop, selectors, a
 ghost use Rattle.grammar.specs.Record.{Told, untold, tell};
 ghost use Rattle.control_model.specs.Chain.{areaAt, plainAt, changeAt, orderAt, commandsAt, blocksAt};
 ghost use Rattle.control_model.specs.Answers.{spuOf, orderAnswer, commandsAnswer, chainAnswer, controlAnswer};
+ghost use Rattle.rle_model.specs.Answers.{nothing};
 
 fn word_of(a: u8, b: u8) -> u16
     ensures { λ r. ⌜ r ≡ a * 256 + b ⌝ }
@@ -67,7 +69,7 @@ fn twelve_to(unit: &[u8], q: usize) -> u16
 
 // A start in a block with this delay: the first counts.
 fn with_start(spu: Spu, delay: u16) -> Spu
-    ensures { λ r. ⌜ ((t : Told) → spu ≡ spuOf t 0 → r ≡ spuOf (tell delay start t) 0) ⌝ }
+    ensures { λ r. ⌜ ((t : Told) → spu ≡ spuOf t nothing → r ≡ spuOf (tell delay start t) nothing) ⌝ }
 {
     if spu.started {
         return spu;
@@ -79,7 +81,7 @@ fn with_start(spu: Spu, delay: u16) -> Spu
 }
 
 fn with_forced_start(spu: Spu, delay: u16) -> Spu
-    ensures { λ r. ⌜ ((t : Told) → spu ≡ spuOf t 0 → r ≡ spuOf (tell delay forced-start t) 0) ⌝ }
+    ensures { λ r. ⌜ ((t : Told) → spu ≡ spuOf t nothing → r ≡ spuOf (tell delay forced-start t) nothing) ⌝ }
 {
     let mut s = with_start(spu, delay);
     s.forced_display = true;
@@ -88,7 +90,7 @@ fn with_forced_start(spu: Spu, delay: u16) -> Spu
 
 // A stop in a block with this delay: the last counts.
 fn with_stop(spu: Spu, delay: u16) -> Spu
-    ensures { λ r. ⌜ ((t : Told) → spu ≡ spuOf t 0 → r ≡ spuOf (tell delay stop t) 0) ⌝ }
+    ensures { λ r. ⌜ ((t : Told) → spu ≡ spuOf t nothing → r ≡ spuOf (tell delay stop t) nothing) ⌝ }
 {
     let mut s = spu;
     s.stopped = true;
@@ -97,7 +99,7 @@ fn with_stop(spu: Spu, delay: u16) -> Spu
 }
 
 fn with_selectors(spu: Spu, four: u16) -> Spu
-    ensures { λ r. ⌜ ((t : Told) (d : ℕ) → spu ≡ spuOf t 0 → r ≡ spuOf (tell d (selectors four) t) 0) ⌝ }
+    ensures { λ r. ⌜ ((t : Told) (d : ℕ) → spu ≡ spuOf t nothing → r ≡ spuOf (tell d (selectors four) t) nothing) ⌝ }
 {
     let mut s = spu;
     s.palette_sel = four;
@@ -105,7 +107,7 @@ fn with_selectors(spu: Spu, four: u16) -> Spu
 }
 
 fn with_alphas(spu: Spu, four: u16) -> Spu
-    ensures { λ r. ⌜ ((t : Told) (d : ℕ) → spu ≡ spuOf t 0 → r ≡ spuOf (tell d (alphas four) t) 0) ⌝ }
+    ensures { λ r. ⌜ ((t : Told) (d : ℕ) → spu ≡ spuOf t nothing → r ≡ spuOf (tell d (alphas four) t) nothing) ⌝ }
 {
     let mut s = spu;
     s.alpha = four;
@@ -113,7 +115,7 @@ fn with_alphas(spu: Spu, four: u16) -> Spu
 }
 
 fn with_area(spu: Spu, x1: u16, x2: u16, y1: u16, y2: u16) -> Spu
-    ensures { λ r. ⌜ ((t : Told) (d : ℕ) → spu ≡ spuOf t 0 → r ≡ spuOf (tell d (area x1 x2 y1 y2) t) 0) ⌝ }
+    ensures { λ r. ⌜ ((t : Told) (d : ℕ) → spu ≡ spuOf t nothing → r ≡ spuOf (tell d (area x1 x2 y1 y2) t) nothing) ⌝ }
 {
     let mut s = spu;
     s.x1 = x1;
@@ -124,7 +126,7 @@ fn with_area(spu: Spu, x1: u16, x2: u16, y1: u16, y2: u16) -> Spu
 }
 
 fn with_offsets(spu: Spu, top: u16, bottom: u16) -> Spu
-    ensures { λ r. ⌜ ((t : Told) (d : ℕ) → spu ≡ spuOf t 0 → r ≡ spuOf (tell d (offsets top bottom) t) 0) ⌝ }
+    ensures { λ r. ⌜ ((t : Told) (d : ℕ) → spu ≡ spuOf t nothing → r ≡ spuOf (tell d (offsets top bottom) t) nothing) ⌝ }
 {
     let mut s = spu;
     s.top_rle_off = top;
@@ -135,7 +137,7 @@ fn with_offsets(spu: Spu, top: u16, bottom: u16) -> Spu
 // A colour change whose bands take so many words.
 fn with_bands(spu: Spu, words: usize) -> Spu
     requires { ⌜ spu .«band_words» + words < 2 ^ 64 ⌝ }
-    ensures { λ r. ⌜ ((t : Told) (d n : ℕ) (bs : List Band) → words ≡ length (bandWords bs) → spu ≡ spuOf t 0 → r ≡ spuOf (tell d (colours n bs) t) 0) ⌝ }
+    ensures { λ r. ⌜ ((t : Told) (d n : ℕ) (bs : List Band) → words ≡ length (bandWords bs) → spu ≡ spuOf t nothing → r ≡ spuOf (tell d (colours n bs) t) nothing) ⌝ }
 {
     let mut s = spu;
     s.saw_chg_colcon = true;
@@ -146,7 +148,7 @@ fn with_bands(spu: Spu, words: usize) -> Spu
 // The area whose six bytes stand at p.
 fn with_area_at(unit: &[u8], p: usize, spu: Spu) -> Spu
     requires { ⌜ p + 6 ≤ length (now unit) ⌝ }
-    ensures { λ r. ⌜ ((t : Told) (d : ℕ) → spu ≡ spuOf t 0 → r ≡ spuOf (tell d (areaAt (now (unit .entry)) p) t) 0) ⌝ }
+    ensures { λ r. ⌜ ((t : Told) (d : ℕ) → spu ≡ spuOf t nothing → r ≡ spuOf (tell d (areaAt (now (unit .entry)) p) t) nothing) ⌝ }
 {
     let x1 = twelve_from(unit, p);
     let x2 = twelve_to(unit, p + 1);
@@ -176,7 +178,7 @@ pub fn taken(code: u8) -> usize
 // The record after a command other than a colour change, its parameters at p.
 fn with_order(unit: &[u8], p: usize, code: u8, delay: u16, spu: Spu) -> Spu
     requires { ⌜ (code < 7) × (p + sizeOf (plainAt (now unit) p code) ≤ length (now unit)) ⌝ }
-    ensures { λ r. ⌜ ((t : Told) → spu ≡ spuOf t 0 → r ≡ spuOf (tell delay (plainAt (now (unit .entry)) p code) t) 0) ⌝ }
+    ensures { λ r. ⌜ ((t : Told) → spu ≡ spuOf t nothing → r ≡ spuOf (tell delay (plainAt (now (unit .entry)) p code) t) nothing) ⌝ }
 {
     if code == 0 {
         return with_forced_start(spu, delay);
@@ -202,7 +204,7 @@ fn with_order(unit: &[u8], p: usize, code: u8, delay: u16, spu: Spu) -> Spu
 // A colour change, its size word at p.
 fn read_change(unit: &[u8], end: usize, p: usize, spu: Spu) -> CommandAnswer
     requires { ⌜ (p ≤ end) × (end ≤ length (now unit)) × (spu .«band_words» + length (now unit) < 2 ^ 64) ⌝ }
-    ensures { λ r. ⌜ ((t : Told) (d : ℕ) → spu ≡ spuOf t 0 → r ≡ orderAnswer d p t (changeAt (now (unit .entry)) end p)) ⌝ }
+    ensures { λ r. ⌜ ((t : Told) (d : ℕ) → spu ≡ spuOf t nothing → r ≡ orderAnswer d p t (changeAt (now (unit .entry)) end p)) ⌝ }
 {
     if end - p < 2 {
         return CommandAnswer::Refused(CUT_PARAMETERS);
@@ -227,7 +229,7 @@ fn read_change(unit: &[u8], end: usize, p: usize, spu: Spu) -> CommandAnswer
 // A command that stands before `end`, in a block with this delay.
 fn read_command(unit: &[u8], end: usize, at: usize, delay: u16, spu: Spu) -> CommandAnswer
     requires { ⌜ (at < end) × (end ≤ length (now unit)) × (spu .«band_words» + length (now unit) < 2 ^ 64) ⌝ }
-    ensures { λ r. ⌜ ((t : Told) → spu ≡ spuOf t 0 → r ≡ orderAnswer delay (at + 1) t (orderAt (now (unit .entry)) end (at + 1) (byte (now (unit .entry)) at))) ⌝ }
+    ensures { λ r. ⌜ ((t : Told) → spu ≡ spuOf t nothing → r ≡ orderAnswer delay (at + 1) t (orderAt (now (unit .entry)) end (at + 1) (byte (now (unit .entry)) at))) ⌝ }
 {
     let code = unit[at];
     let p = at + 1;
@@ -249,8 +251,8 @@ fn read_command(unit: &[u8], end: usize, at: usize, delay: u16, spu: Spu) -> Com
 
 // The commands of a block with this delay, from `from` on.
 fn read_commands(unit: &[u8], end: usize, from: usize, delay: u16, spu: Spu) -> ControlAnswer
-    requires { ⌜ ((t : Told) × (spu ≡ spuOf t 0)) × (from ≤ end) × (end ≤ length (now unit)) × (spu .«band_words» + end + length (now unit) < 2 ^ 64) ⌝ }
-    ensures { λ r. ⌜ ((t : Told) → spu ≡ spuOf t 0 → r ≡ commandsAnswer delay t (commandsAt (now (unit .entry)) end from)) ⌝ }
+    requires { ⌜ ((t : Told) × (spu ≡ spuOf t nothing)) × (from ≤ end) × (end ≤ length (now unit)) × (spu .«band_words» + end + length (now unit) < 2 ^ 64) ⌝ }
+    ensures { λ r. ⌜ ((t : Told) → spu ≡ spuOf t nothing → r ≡ commandsAnswer delay t (commandsAt (now (unit .entry)) end from)) ⌝ }
 {
     let mut at = from;
     let mut told = spu;
@@ -279,6 +281,7 @@ fn read_chain(unit: &[u8], end: usize, from: usize) -> ControlAnswer
     requires { ⌜ (end ≤ length (now unit)) × (end < 65536) × (from < 65536) × (length (now unit) < 2 ^ 63) ⌝ }
     ensures { λ r. ⌜ r ≡ chainAnswer untold (blocksAt (now (unit .entry)) end (some from)) ⌝ }
 {
+    let counts = Counts { codes: 0 };
     let mut told = Spu {
         x1: 0,
         y1: 0,
@@ -295,7 +298,7 @@ fn read_chain(unit: &[u8], end: usize, from: usize) -> ControlAnswer
         bot_rle_off: 0,
         saw_chg_colcon: false,
         band_words: 0,
-        codes: 0,
+        counts,
     };
     let mut pos = from;
     while pos + 4 <= end {

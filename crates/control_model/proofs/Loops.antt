@@ -28,6 +28,7 @@ use Rattle.control_model.specs.declared.ControlAnswer.the-variants as co
 use Rattle.bands_model.proofs.Loops.{words-join}
 use Rattle.control_model.proofs.Grammar.{order-sound, commands-iff, commands-step, blocks-step}
 use Rattle.control_model.proofs.Listed.{bands-listed, bands-few}
+use Rattle.rle_model.specs.Answers.{nothing}
 
 -- ---- A colour change of size z
 
@@ -38,7 +39,7 @@ pub record Changed (u : List ℕ) (L p z n : ℕ) : Type 0 where
   pub few : n ≤ length u
   pub reads : changeAt u L p ≡ ok (colours z bs)
 
-pub change-told : (u : List ℕ) (L p z n d : ℕ) (t : Told) (s : Spu) (c : Changed u L p z n) → s ≡ spuOf (tell d (colours z (c .bs)) t) 0
+pub change-told : (u : List ℕ) (L p z n d : ℕ) (t : Told) (s : Spu) (c : Changed u L p z n) → s ≡ spuOf (tell d (colours z (c .bs)) t) nothing
     → command-answer.Next (p + z) s ≡ orderAnswer d p t (changeAt u L p)
 change-told u L p z n d t s c e = ap (command-answer.Next (p + z)) e ∙ ap (orderAnswer d p t) (sym (c .reads))
 
@@ -102,7 +103,7 @@ module _ (u : List ℕ) (L p k d : ℕ) (t : Told) where
   unfolding orderAt
   order-cut h n e l = rw (lt-ltb k 7 h, ← e, lt-leb (p + n) L l)
 
-  pub order-told : k < 7 → (n : ℕ) (s : Spu) → n ≡ sizeOf (plainAt u p k) → p + n ≤ L → s ≡ spuOf (tell d (plainAt u p k) t) 0
+  pub order-told : k < 7 → (n : ℕ) (s : Spu) → n ≡ sizeOf (plainAt u p k) → p + n ≤ L → s ≡ spuOf (tell d (plainAt u p k) t) nothing
       → command-answer.Next (p + n) s ≡ orderAnswer d p t (orderAt u L p k)
   unfolding orderAt
   order-told h n s e l q = rw (lt-ltb k 7 h, ← e, le-leb (p + n) L l) (λ j. command-answer.Next (p + e j) (q j))
@@ -114,7 +115,7 @@ pub record Got (u : List ℕ) (L p k d : ℕ) (t : Told) (a : ℕ) (s : Spu) : T
   pub o : Order
   pub reads : orderAt u L p k ≡ ok o
   pub place : a ≡ p + sizeOf o
-  pub spu : s ≡ spuOf (tell d o t) 0
+  pub spu : s ≡ spuOf (tell d o t) nothing
 
 pub got : (u : List ℕ) (L p k d : ℕ) (t : Told) (a : ℕ) (s : Spu) → command-answer.Next a s ≡ orderAnswer d p t (orderAt u L p k) → Got u L p k d t a s
 got u L p k d t a s e = go (orderAt u L p k) refl e
@@ -148,7 +149,7 @@ order-grows u p d t (colours s bs) h =
 pub record Commanding (u : List ℕ) (L d from : ℕ) (spu : Spu) (at : ℕ) (told : Spu) : Type 0 where
   pub there : at ≤ L
   pub few : told .«band_words» + from ≤ spu .«band_words» + at
-  pub goes : (t : Told) → spu ≡ spuOf t 0 → (t′ : Told) × (told ≡ spuOf t′ 0) × (commandsAnswer d t′ (commandsAt u L at) ≡ commandsAnswer d t (commandsAt u L from))
+  pub goes : (t : Told) → spu ≡ spuOf t nothing → (t′ : Told) × (told ≡ spuOf t′ nothing) × (commandsAnswer d t′ (commandsAt u L at) ≡ commandsAnswer d t (commandsAt u L from))
 
 module _ (u : List ℕ) (L d from : ℕ) (spu : Spu) (inside : L ≤ length u) where
   pub commanding-starts : from ≤ L → Commanding u L d from spu from spu
@@ -157,9 +158,9 @@ module _ (u : List ℕ) (L d from : ℕ) (spu : Spu) (inside : L ≤ length u) w
   module _ (at : ℕ) (told : Spu) (i : Commanding u L d from spu at told) where
     -- one more
     abbrev Next : ℕ → Spu → Type 0
-    Next a s = (t : Told) → told ≡ spuOf t 0 → command-answer.Next a s ≡ orderAnswer d (at + 1) t (orderAt u L (at + 1) (byte u at))
+    Next a s = (t : Told) → told ≡ spuOf t nothing → command-answer.Next a s ≡ orderAnswer d (at + 1) t (orderAt u L (at + 1) (byte u at))
 
-    pub commanding-falls : (a : ℕ) (s : Spu) → Next a s → ((t : Told) × (spu ≡ spuOf t 0)) → (at < a) × (a ≤ L)
+    pub commanding-falls : (a : ℕ) (s : Spu) → Next a s → ((t : Told) × (spu ≡ spuOf t nothing)) → (at < a) × (a ≤ L)
     commanding-falls a s n k =
         let w = i .goes (k .0) (k .1) in
         let g = got u L (at + 1) (byte u at) d (w .0) a s (n (w .0) (w .1)) in
@@ -168,12 +169,12 @@ module _ (u : List ℕ) (L d from : ℕ) (spu : Spu) (inside : L ≤ length u) w
         let p = g .place in
         (omega arith, omega arith)
 
-    pub commanding-goes : (a : ℕ) (s : Spu) → Next a s → ((t : Told) × (spu ≡ spuOf t 0)) → at < L → (byte u at ≡ 255 → ⊥) → Commanding u L d from spu a s
+    pub commanding-goes : (a : ℕ) (s : Spu) → Next a s → ((t : Told) × (spu ≡ spuOf t nothing)) → at < L → (byte u at ≡ 255 → ⊥) → Commanding u L d from spu a s
     unfolding spuOf commandAt tellBlock
     commanding-goes a s n k l b =
         record { there = commanding-falls a s n k .1; few = grows (i .goes (k .0) (k .1)); goes = λ t e. go t (i .goes t e) }
       where
-        grows : ((t′ : Told) × (told ≡ spuOf t′ 0) × (commandsAnswer d t′ (commandsAt u L at) ≡ commandsAnswer d (k .0) (commandsAt u L from))) → s .«band_words» + from ≤ spu .«band_words» + a
+        grows : ((t′ : Told) × (told ≡ spuOf t′ nothing) × (commandsAnswer d t′ (commandsAt u L at) ≡ commandsAnswer d (k .0) (commandsAt u L from))) → s .«band_words» + from ≤ spu .«band_words» + a
         grows w =
             let g = got u L (at + 1) (byte u at) d (w .0) a s (n (w .0) (w .1)) in
             let o = order-sound u L inside (at + 1) (byte u at) (g .o) (g .reads) in
@@ -184,8 +185,8 @@ module _ (u : List ℕ) (L d from : ℕ) (spu : Spu) (inside : L ≤ length u) w
             let f = i .few in
             omega arith
 
-        go : (t : Told) → ((t′ : Told) × (told ≡ spuOf t′ 0) × (commandsAnswer d t′ (commandsAt u L at) ≡ commandsAnswer d t (commandsAt u L from)))
-            → (t′ : Told) × (s ≡ spuOf t′ 0) × (commandsAnswer d t′ (commandsAt u L a) ≡ commandsAnswer d t (commandsAt u L from))
+        go : (t : Told) → ((t′ : Told) × (told ≡ spuOf t′ nothing) × (commandsAnswer d t′ (commandsAt u L at) ≡ commandsAnswer d t (commandsAt u L from)))
+            → (t′ : Told) × (s ≡ spuOf t′ nothing) × (commandsAnswer d t′ (commandsAt u L a) ≡ commandsAnswer d t (commandsAt u L from))
         go t w =
             let g = got u L (at + 1) (byte u at) d (w .0) a s (n (w .0) (w .1)) in
             let c : commandAt u L at ≡ ok (command at (g .o)) = ap (mapRes (command at)) (g .reads) in
@@ -198,19 +199,19 @@ module _ (u : List ℕ) (L d from : ℕ) (spu : Spu) (inside : L ≤ length u) w
             more t o (refuse n) = refl
 
     -- the last, at `FF` or at L
-    pub commanding-ends : ((at < L) → byte u at ≡ 255) → (t : Told) → spu ≡ spuOf t 0 → control-answer.Tells told ≡ commandsAnswer d t (commandsAt u L from)
+    pub commanding-ends : ((at < L) → byte u at ≡ 255) → (t : Told) → spu ≡ spuOf t nothing → control-answer.Tells told ≡ commandsAnswer d t (commandsAt u L from)
     unfolding tellBlock
     commanding-ends h t e =
         let w = i .goes t e in
-        let m : commandsAnswer d (w .0) (commandsAt u L at) ≡ control-answer.Tells (spuOf (w .0) 0) = ap (commandsAnswer d (w .0)) (stops (le-or-lt L at)) in
+        let m : commandsAnswer d (w .0) (commandsAt u L at) ≡ control-answer.Tells (spuOf (w .0) nothing) = ap (commandsAnswer d (w .0)) (stops (le-or-lt L at)) in
         ap control-answer.Tells (w .1) ∙ sym m ∙ w .2
       where
         stops : (L ≤ at) ⊎ (at < L) → commandsAt u L at ≡ ok []
         stops (inl l) = rw (commands-step u L inside at, le-leb L at l)
         stops (inr l) = rw (commands-step u L inside at, lt-leb L at l, eq-eqb (byte u at) 255 (h l))
 
-    pub commanding-refuses : (n : ℕ) → at < L → (byte u at ≡ 255 → ⊥) → ((t : Told) → told ≡ spuOf t 0 → command-answer.Refused n ≡ orderAnswer d (at + 1) t (orderAt u L (at + 1) (byte u at)))
-        → (t : Told) → spu ≡ spuOf t 0 → control-answer.Refused n ≡ commandsAnswer d t (commandsAt u L from)
+    pub commanding-refuses : (n : ℕ) → at < L → (byte u at ≡ 255 → ⊥) → ((t : Told) → told ≡ spuOf t nothing → command-answer.Refused n ≡ orderAnswer d (at + 1) t (orderAt u L (at + 1) (byte u at)))
+        → (t : Told) → spu ≡ spuOf t nothing → control-answer.Refused n ≡ commandsAnswer d t (commandsAt u L from)
     unfolding commandAt
     commanding-refuses n l b f t e =
         let w = i .goes t e in
@@ -225,7 +226,7 @@ module _ (u : List ℕ) (L d from : ℕ) (spu : Spu) (inside : L ≤ length u) w
 pub record Block-told (u : List ℕ) (L p d : ℕ) (t : Told) (s : Spu) : Type 0 where
   pub cs : List Command
   pub reads : commandsAt u L p ≡ ok cs
-  pub spu : s ≡ spuOf (tellBlock d cs t) 0
+  pub spu : s ≡ spuOf (tellBlock d cs t) nothing
 
 pub block-told : (u : List ℕ) (L p d : ℕ) (t : Told) (s : Spu) → control-answer.Tells s ≡ commandsAnswer d t (commandsAt u L p) → Block-told u L p d t s
 block-told u L p d t s e = go (commandsAt u L p) refl e
@@ -255,13 +256,13 @@ block-grows u L p d (c ∷ cs) t h =
 -- where reading the chain stands
 pub record Chaining (u : List ℕ) (L from pos : ℕ) (told : Spu) : Type 0 where
   pub t : Told
-  pub is : told ≡ spuOf t 0
+  pub is : told ≡ spuOf t nothing
   pub below : pos < 65536
   pub few : told .«band_words» ≤ 65536 * pos
   pub goes : chainAnswer t (blocksAt u L (some pos)) ≡ chainAnswer untold (blocksAt u L (some from))
 
 module _ (u : List ℕ) (L from : ℕ) (inside : L ≤ length u) where
-  pub chaining-starts : from < 65536 → Chaining u L from from (spuOf untold 0)
+  pub chaining-starts : from < 65536 → Chaining u L from from (spuOf untold nothing)
   unfolding spuOf untold bandWords
   chaining-starts h = record { t = untold; is = refl; below = h; few = omega arith; goes = refl }
 
@@ -269,12 +270,12 @@ module _ (u : List ℕ) (L from : ℕ) (inside : L ≤ length u) where
     pub chaining-ends : L < pos + 4 → control-answer.Tells told ≡ chainAnswer untold (blocksAt u L (some from))
     unfolding tellChain
     chaining-ends h =
-        let m : chainAnswer (i .t) (blocksAt u L (some pos)) ≡ control-answer.Tells (spuOf (i .t) 0) = rw (blocks-step u L inside (some pos), lt-ltb L (pos + 4) h) in
+        let m : chainAnswer (i .t) (blocksAt u L (some pos)) ≡ control-answer.Tells (spuOf (i .t) nothing) = rw (blocks-step u L inside (some pos), lt-ltb L (pos + 4) h) in
         ap control-answer.Tells (i .is) ∙ sym m ∙ i .goes
 
     -- the block at pos, of delay d, that names place n
     module _ (h : pos + 4 ≤ L) (d n : ℕ) (delay : d ≡ word u pos) (next : n ≡ word u (pos + 2)) where
-      pub chaining-refuses : (k : ℕ) → ((t : Told) → told ≡ spuOf t 0 → control-answer.Refused k ≡ commandsAnswer d t (commandsAt u L (pos + 4)))
+      pub chaining-refuses : (k : ℕ) → ((t : Told) → told ≡ spuOf t nothing → control-answer.Refused k ≡ commandsAnswer d t (commandsAt u L (pos + 4)))
           → control-answer.Refused k ≡ chainAnswer untold (blocksAt u L (some from))
       unfolding blockAt
       chaining-refuses k f =
@@ -282,7 +283,7 @@ module _ (u : List ℕ) (L from : ℕ) (inside : L ≤ length u) where
           let m : chainAnswer (i .t) (blocksAt u L (some pos)) ≡ control-answer.Refused k = rw (blocks-step u L inside (some pos), le-ltb L (pos + 4) h, c) in
           sym m ∙ i .goes
 
-      module _ (s : Spu) (f : (t : Told) → told ≡ spuOf t 0 → control-answer.Tells s ≡ commandsAnswer d t (commandsAt u L (pos + 4))) where
+      module _ (s : Spu) (f : (t : Told) → told ≡ spuOf t nothing → control-answer.Tells s ≡ commandsAnswer d t (commandsAt u L (pos + 4))) where
         b : Block-told u L (pos + 4) d (i .t) s
         b = block-told u L (pos + 4) d (i .t) s (f (i .t) (i .is))
 
@@ -290,8 +291,8 @@ module _ (u : List ℕ) (L from : ℕ) (inside : L ≤ length u) where
         unfolding blockAt
         read = ap (mapRes (block u pos)) (b .reads)
 
-        now-told : s ≡ spuOf (tellBlock (word u pos) (b .cs) (i .t)) 0
-        now-told = b .spu ∙ ap (λ (e : ℕ). spuOf (tellBlock e (b .cs) (i .t)) 0) delay
+        now-told : s ≡ spuOf (tellBlock (word u pos) (b .cs) (i .t)) nothing
+        now-told = b .spu ∙ ap (λ (e : ℕ). spuOf (tellBlock e (b .cs) (i .t)) nothing) delay
 
         more : (r : Res (List Block)) → chainAnswer (i .t) (consRes (block u pos (b .cs)) r) ≡ chainAnswer (tellBlock (word u pos) (b .cs) (i .t)) r
         unfolding tellChain
@@ -302,7 +303,7 @@ module _ (u : List ℕ) (L from : ℕ) (inside : L ≤ length u) where
         unfolding tellChain
         chaining-last l =
             let l′ : word u (pos + 2) ≤ pos = rw (← next) l in
-            let m : chainAnswer (i .t) (blocksAt u L (some pos)) ≡ control-answer.Tells (spuOf (tellBlock (word u pos) (b .cs) (i .t)) 0) =
+            let m : chainAnswer (i .t) (blocksAt u L (some pos)) ≡ control-answer.Tells (spuOf (tellBlock (word u pos) (b .cs) (i .t)) nothing) =
             rw (blocks-step u L inside (some pos), le-ltb L (pos + 4) h, read, le-leb (word u (pos + 2)) pos l′, blocks-step u L inside none) in
             ap control-answer.Tells now-told ∙ sym m ∙ i .goes
 
@@ -378,13 +379,13 @@ module _ (u : List ℕ) where
 
       module _ (s : Spu) (e : control-answer.Tells s ≡ chainAnswer untold found) where
         -- of what a chain told
-        tells : (b : Bool) → ((t : Told) → s ≡ spuOf t 0 → hasArea t ≡ b) → cond b (control-answer.Tells s) (control-answer.Refused no-area) ≡ controlAnswer u
+        tells : (b : Bool) → ((t : Told) → s ≡ spuOf t nothing → hasArea t ≡ b) → cond b (control-answer.Tells s) (control-answer.Refused no-area) ≡ controlAnswer u
         tells b k = go found refl e
           where
             go : (r : Res (List Block)) → found ≡ r → control-answer.Tells s ≡ chainAnswer untold r → cond b (control-answer.Tells s) (control-answer.Refused no-area) ≡ controlAnswer u
             go (refuse m) q f = let y : _≡_ {A = ℕ} 0 1 = cc in absurd (omega arith)
             go (ok bs) q f =
-                let y : s ≡ spuOf (told bs) 0 = cc in
+                let y : s ≡ spuOf (told bs) nothing = cc in
                 rw (fits, q, k (told bs) y) (last b f)
               where
                 last : (b : Bool) → control-answer.Tells s ≡ chainAnswer untold (ok bs) → cond b (control-answer.Tells s) (control-answer.Refused no-area) ≡ chainAnswer untold (check b no-area (ok bs))

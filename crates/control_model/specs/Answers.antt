@@ -14,13 +14,15 @@ use Rattle.control_model.specs.declared.CommandAnswer.{CommandAnswer}
 use Rattle.control_model.specs.declared.CommandAnswer.the-variants as command-answer
 use Rattle.control_model.specs.declared.ControlAnswer.{ControlAnswer}
 use Rattle.control_model.specs.declared.ControlAnswer.the-variants as control-answer
+use Rattle.rle_model.specs.declared.Counts.{Counts}
+use Rattle.rle_model.specs.Answers.{nothing}
 
 abbrev pub given : Option ℕ → Bool
 given none = false
 given (some d) = true
 
--- the record of what was told, with n codes: a delay that was not told is 0 (FORMAT 3.6)
-unfoldable pub spuOf : Told → ℕ → Spu
+-- the record of what was told, with what rows count: a delay that was not told is 0 (FORMAT 3.6)
+unfoldable pub spuOf : Told → Counts → Spu
 spuOf t n =
     record {
       x1 = t .at .x1;
@@ -38,22 +40,22 @@ spuOf t n =
       «bot_rle_off» = t .fields .bottom;
       «saw_chg_colcon» = t .changed;
       «band_words» = length (bandWords (t .bands));
-      codes = n;
+      counts = n;
     }
 
 -- of an order whose parameters start at p, in a block of delay d, after t was told
 abbrev pub orderAnswer : ℕ → ℕ → Told → Res Order → CommandAnswer
-orderAnswer d p t (ok o) = command-answer.Next (p + sizeOf o) (spuOf (tell d o t) 0)
+orderAnswer d p t (ok o) = command-answer.Next (p + sizeOf o) (spuOf (tell d o t) nothing)
 orderAnswer d p t (refuse n) = command-answer.Refused n
 
 -- of the commands of a block
 abbrev pub commandsAnswer : ℕ → Told → Res (List Command) → ControlAnswer
-commandsAnswer d t (ok cs) = control-answer.Tells (spuOf (tellBlock d cs t) 0)
+commandsAnswer d t (ok cs) = control-answer.Tells (spuOf (tellBlock d cs t) nothing)
 commandsAnswer d t (refuse n) = control-answer.Refused n
 
 -- of the blocks of a chain
 abbrev pub chainAnswer : Told → Res (List Block) → ControlAnswer
-chainAnswer t (ok bs) = control-answer.Tells (spuOf (tellChain bs t) 0)
+chainAnswer t (ok bs) = control-answer.Tells (spuOf (tellChain bs t) nothing)
 chainAnswer t (refuse n) = control-answer.Refused n
 
 -- of a unit

@@ -15,7 +15,7 @@ use Rattle.grammar.specs.Pixels.{indexMap, codesIn}
 use Rattle.grammar.specs.Record.{Told, told, width, height}
 use Rattle.grammar.specs.Picture.{ListedUnit, IsUnit}
 use Rattle.control_model.specs.Answers.{spuOf}
-use Rattle.spu_model.specs.Unit.{unitIn}
+use Rattle.spu_model.specs.Unit.{unitIn, countsOf}
 use Rattle.spu_model.specs.Answers.{spuAnswer, unitMap, unitBands, Decoded}
 use Rattle.spu_model.specs.declared.SpuAnswer.{SpuAnswer}
 use Rattle.spu_model.specs.declared.SpuAnswer.the-variants as spu-answer
@@ -29,8 +29,9 @@ use Rattle.demo_model.specs.Claim.{writtenTold, Listed, ReadsBack, Kept,
 use Rattle.demo_model.proofs.Marks.{fill-closes}
 use Rattle.demo_model.proofs.Unit.{Back, back}
 use Rattle.demo_model.proofs.Whole.{demo-sound}
+use Rattle.rle_model.specs.declared.Counts.{Counts}
 
-abbrev spuAnswerOf : Told → ℕ → SpuAnswer
+abbrev spuAnswerOf : Told → Counts → SpuAnswer
 spuAnswerOf t n = spu-answer.Shows (spuOf t n)
 
 module _ (w h : ℕ) (px : List ℕ) (n : ℕ) (u : List ℕ) (e : demoAt w h px n ≡ ok u) where
@@ -88,7 +89,7 @@ module _ (w h : ℕ) (px : List ℕ) (n : ℕ) (u : List ℕ) (e : demoAt w h px
   reads map ws l r map′ ws′ d =
       let b = read in
       let t : Told = writtenTold w h (4 + length (topNibbles lastMarks w h px) / 2) in
-      let n : ℕ = codesIn (b .list .rows) in
+      let n : Counts = countsOf (b .list) in
       let z : length (bandWords (told (b .list .blocks) .bands)) ≡ 0 = ap (λ (q : Told). length (bandWords (q .bands))) (b .tells) in
       let room : width (told (b .list .blocks)) * height (told (b .list .blocks)) ≤ length map = rw (wide-is, high-is) l in
       let f = unit-iff (unitOf lastMarks w h px) (b .list) .1 (b .listed) in

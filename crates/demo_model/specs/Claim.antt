@@ -19,6 +19,7 @@ use Rattle.demo_model.specs.Codes.{lastMarks}
 use Rattle.demo_model.specs.Unit.{topNibbles}
 use Rattle.demo_model.specs.declared.DemoAnswer.{DemoAnswer}
 use Rattle.demo_model.specs.declared.DemoAnswer.the-variants as demo-answer
+use Rattle.spu_model.specs.Unit.{countsOf}
 
 -- what the commands of the control block tell, of a picture whose bottom field is at b
 abbrev pub writtenTold : ℕ → ℕ → ℕ → Told
@@ -50,8 +51,8 @@ pub record ReadsBack (w h : ℕ) (px : List ℕ) (l : ListedUnit) (map ws : List
   pub y1 : says .y1 ≡ 0
   pub wide : says .x2 + 1 ≡ w
   pub high : says .y2 + 1 ≡ h
-  pub codes : says .codes ≡ codesIn (l .rows)
-  pub others : says ≡ spuOf (writtenTold w h (4 + length (topNibbles lastMarks w h px) / 2)) (codesIn (l .rows))
+  pub codes : says .counts .codes ≡ codesIn (l .rows)
+  pub others : says ≡ spuOf (writtenTold w h (4 + length (topNibbles lastMarks w h px) / 2)) (countsOf l)
   pub pixels : map′ ≡ sets map 0 px
   pub words : ws′ ≡ ws
 

@@ -8,6 +8,7 @@ use Rattle.grammar.specs.Record.{untold, tellBlock, tellChain, told}
 use Rattle.control_model.specs.Answers.{spuOf}
 use Rattle.listing_model.specs.Title.{shownAt}
 use Rattle.listing_model.specs.Answers.{recordShown}
+use Rattle.rle_model.specs.Answers.{nothing}
 
 -- a start with delay 7, and a stop with delay 9
 abbrev blocks : List Block
@@ -23,6 +24,6 @@ pub delays-listed :
 unfolding untold tellBlock tellChain
 delays-listed = (refl, refl)
 
-pub delays-recorded : (recordShown (pos 0) none (spuOf (told blocks) 0) .start-delay ≡ 7) × (recordShown (pos 0) none (spuOf (told blocks) 0) .stop-delay ≡ 9)
+pub delays-recorded : (recordShown (pos 0) none (spuOf (told blocks) nothing) .start-delay ≡ 7) × (recordShown (pos 0) none (spuOf (told blocks) nothing) .stop-delay ≡ 9)
 unfolding spuOf untold tellBlock tellChain
 delays-recorded = (refl, refl)

@@ -15,7 +15,7 @@ use Rattle.outcome.specs.Outcome.{Res, ok, refuse, andThen, mapRes}
 use Rattle.outcome.proofs.Laws.{andThen-ok, mapRes-ok, part-slice}
 use Rattle.grammar.specs.Bytes.{byte, word}
 use Rattle.grammar.specs.Packets.{Packet, Part, keptBytes, joined, Packets, IsPack, IsPrivate, IsOther, IsPacket, Keeps, Form, bare, packets, IsForm, unitOf, scratchFor, subpicture}
-use Rattle.grammar.specs.Record.{told}
+use Rattle.grammar.specs.Record.{told, width}
 use Rattle.grammar.specs.Picture.{ListedUnit}
 use Rattle.grammar.specs.Pixels.{codesIn}
 use Rattle.control_model.specs.Chain.{controlAt}
@@ -28,7 +28,7 @@ use Rattle.ps_model.specs.declared.UnitAnswer.{UnitAnswer}
 use Rattle.ps_model.specs.declared.UnitAnswer.the-variants as unit-answer
 use Rattle.ps_model.proofs.Grammar.{form-iff}
 use Rattle.ps_model.proofs.Claim.{unit-sound, unit-there}
-use Rattle.spu_model.specs.Unit.{rowsAt, listedUnit, unitAt}
+use Rattle.spu_model.specs.Unit.{rowsAt, listedUnit, unitAt, countsOf}
 use Rattle.spu_model.specs.Answers.{spuAnswer}
 use Rattle.spu_model.specs.declared.SpuAnswer.{SpuAnswer}
 use Rattle.spu_model.specs.declared.SpuAnswer.the-variants as spu-answer
@@ -37,6 +37,7 @@ use Rattle.listing_model.specs.Lines.{shownLine, refusedLine}
 use Rattle.listing_model.specs.Title.{shownAt, unitFor, lineOf}
 use Rattle.listing_model.specs.Answers.{Put, recordShown, unitLine, positionLine}
 use Rattle.listing_model.proofs.Laws.{put-as}
+use Rattle.rle_model.specs.Answers.{nothing, listedCounts}
 
 -- ---- A unit that packets give has at most 65,535 bytes
 
@@ -137,8 +138,8 @@ shows-sides u r s d q = go (unitAt u) refl (sym q ∙ d)
         let a = andThen-ok (controlAt u) _ g in
         let bs = a .0 in
         let m = mapRes-ok (listedUnit bs) (rowsAt u (told bs)) (a .2) in
-        let y = known u (spuOf (told bs) 0) (bs, a .1, refl) in
-        let t : s ≡ spuOf (told bs) (codesIn (m .0)) = let z : s ≡ spuOf (told (l .blocks)) (codesIn (l .rows)) = cc in z ∙ ap (λ (v : ListedUnit). spuOf (told (v .blocks)) (codesIn (v .rows))) (sym (m .2)) in
+        let y = known u (spuOf (told bs) nothing) (bs, a .1, refl) in
+        let t : s ≡ spuOf (told bs) (listedCounts (width (told bs)) (m .0)) = let z : s ≡ spuOf (told (l .blocks)) (countsOf l) = cc in z ∙ ap (λ (v : ListedUnit). spuOf (told (v .blocks)) (countsOf v)) (sym (m .2)) in
         (subst (λ (v : Spu). v .x1 ≤ v .x2) (sym t) (y .wide), subst (λ (v : Spu). v .y1 ≤ v .y2) (sym t) (y .high))
 
 module _ (n : ℕ) (z : ℤ) (o : Option ℕ) where
@@ -151,8 +152,8 @@ module _ (n : ℕ) (z : ℤ) (o : Option ℕ) where
         go : (x : Res ListedUnit) → spu-answer.Shows s ≡ spuAnswer x → shownLine n (recordShown y o s) ≡ lineOf n (mapRes (shownAt z o) x)
         go (refuse m) f = let w : _≡_ {A = ℕ} 0 1 = cc in absurd (omega arith)
         go (ok m) f =
-            let w : s ≡ spuOf (told (m .blocks)) (codesIn (m .rows)) = cc in
-            ap (λ (i : Spu). shownLine n (recordShown y o i)) w ∙ ap (λ (i : ℤ). shownLine n (recordShown i o (spuOf (told (m .blocks)) (codesIn (m .rows))))) e
+            let w : s ≡ spuOf (told (m .blocks)) (countsOf m) = cc in
+            ap (λ (i : Spu). shownLine n (recordShown y o i)) w ∙ ap (λ (i : ℤ). shownLine n (recordShown i o (spuOf (told (m .blocks)) (countsOf m)))) e
 
     pub part-line : {l l′ : List ℕ} {k : ℕ} (u w : List ℕ) (v : ℕ) → u ≡ w → Put k l 0 (unitLine n y o u) v l′ → Put k l 0 (unitLine n z o w) v l′
     part-line u w v q p = put-as (ap (unitLine n y o) q ∙ ap (λ (i : ℤ). unitLine n i o w) e) p

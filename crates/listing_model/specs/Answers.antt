@@ -49,7 +49,7 @@ recordShown start duration s =
       y1 = s .y1;
       width = s .x2 + 1 - s .x1;
       height = s .y2 + 1 - s .y1;
-      codes = s .codes;
+      codes = s .counts .codes;
     }
 
 -- the line of cue n with these times and the unit u

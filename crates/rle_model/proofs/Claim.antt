@@ -13,7 +13,7 @@ use Rattle.grammar.specs.Rows.{Code, paints}
 use Rattle.grammar.specs.Pixels.{codesIn}
 use Rattle.rle_model.specs.Codes.{fieldAt}
 use Rattle.rle_model.specs.Field.{rowsFrom, paintField, decoded}
-use Rattle.rle_model.specs.Answers.{rowCounts, fieldCounts, fieldAnswer, Decoded}
+use Rattle.rle_model.specs.Answers.{rowCounts, fieldCounts, fieldAnswer, Decoded, listedCounts}
 use Rattle.rle_model.specs.Claim.{Says}
 use Rattle.rle_model.specs.declared.FieldAnswer.{FieldAnswer}
 use Rattle.rle_model.proofs.Grammar.{field-iff}
@@ -29,6 +29,9 @@ pub counts-codes : (w : ℕ) (rs : List (List Code)) → fieldCounts w rs .codes
 unfolding fieldCounts codesIn
 counts-codes w [] = refl
 counts-codes w (r ∷ rs) = omega (arith, row-codes w r, counts-codes w rs)
+
+pub counts-listed : (w : ℕ) (rs : List (List Code)) → fieldCounts w rs ≡ listedCounts w rs
+counts-listed w rs = ap (λ (n : ℕ). record { codes = n }) (counts-codes w rs)
 
 -- ---- The claim
 
@@ -47,7 +50,7 @@ claim s w h start px r px′ d = ⊎-elim (λ l. go l (fieldAt s (length s) w (r
     go : w * h ≤ length px → (x : Res (List (List Code))) → fieldAt s (length s) w (rowsFrom start h) 0 ≡ x → Says s w h start px px′ r
     go l (ok rs) q =
         let i = field-iff s (length s) w (rowsFrom start h) 0 rs .0 q in
-        told (ok rs) (rw (le-leb (w * h) (length px) l, q)) (λ f. (rs, record { all = i .0; rows = i .1 }, l, counts-codes w rs, f))
+        told (ok rs) (rw (le-leb (w * h) (length px) l, q)) (λ f. (rs, record { all = i .0; rows = i .1 }, l, counts-listed w rs, f))
     go l (refuse n) q =
         told (refuse n) (rw (le-leb (w * h) (length px) l, q))
         (λ f. (

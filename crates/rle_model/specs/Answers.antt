@@ -7,7 +7,7 @@ use lib.ListN.{length, take}
 use lib.Seq.{sets}
 use Rattle.outcome.specs.Outcome.{Res, ok, refuse, listed, IsOk}
 use Rattle.grammar.specs.Rows.{Code, paints, afterCodes}
-use Rattle.grammar.specs.Pixels.{rowPixels}
+use Rattle.grammar.specs.Pixels.{rowPixels, codesIn}
 use Rattle.rle_model.specs.Codes.{rowAt, rowRead, fieldAt, fieldRead}
 use Rattle.rle_model.specs.Field.{decoded, paintField}
 use Rattle.rle_model.specs.Kept.{keptRow, keptAll}
@@ -41,6 +41,10 @@ rowCounts left (c ∷ cs) = plus (counted left c) (rowCounts (left - paints left
 unfoldable pub fieldCounts : ℕ → List (List Code) → Counts
 fieldCounts w [] = nothing
 fieldCounts w (r ∷ rs) = plus (rowCounts w r) (fieldCounts w rs)
+
+-- the same of listed rows of width w, in the grammar's words
+abbrev pub listedCounts : ℕ → List (List Code) → Counts
+listedCounts w rs = record { codes = codesIn rs }
 
 -- ---- Answers
 

@@ -6,6 +6,7 @@ use outcome::NO_TOP_FIELD;
 use outcome::SHORT_PIXELS;
 use outcome::SHORT_WORDS;
 use outcome::word_of;
+use rle_model::Counts;
 use rle_model::FieldAnswer;
 use spu_model::Layout;
 use spu_model::SpuAnswer;
@@ -23,7 +24,7 @@ ghost use lib.Seq.{sets};
 ghost use Rattle.control_model.specs.Fill.{unitWords};
 ghost use Rattle.control_model.specs.Chain.{controlAt};
 ghost use Rattle.control_model.specs.Answers.{spuOf};
-ghost use Rattle.rle_model.specs.Answers.{fieldAnswer};
+ghost use Rattle.rle_model.specs.Answers.{fieldAnswer, nothing};
 ghost use Rattle.spu_model.specs.Unit.{hasBottom, rowsAt, unitAt};
 ghost use Rattle.spu_model.specs.Answers.{layoutOf, spuAnswer, RowsDecoded, Decoded};
 
@@ -52,7 +53,7 @@ fn has_bottom(control: usize, bottom: usize) -> bool
 
 // The layout of a unit whose control blocks tell `spu`.
 fn laid_out(unit: &[u8], spu: Spu) -> Layout
-    requires { ⌜ ((bs : List Block) × (controlAt (now unit) ≡ ok bs) × (spu ≡ spuOf (told bs) 0)) ⌝ }
+    requires { ⌜ ((bs : List Block) × (controlAt (now unit) ≡ ok bs) × (spu ≡ spuOf (told bs) nothing)) ⌝ }
     ensures { λ r. ⌜ (r .width ≤ 65536) × (r .height ≤ 65536) × ((bs : List Block) → controlAt (now (unit .entry)) ≡ ok bs → r ≡ layoutOf (now (unit .entry)) (told bs)) ⌝ }
 {
     let width = spu.x2 as usize + 1 - spu.x1 as usize;
@@ -78,7 +79,7 @@ fn laid_out(unit: &[u8], spu: Spu) -> Layout
 // The codes of the rows of a unit whose control blocks tell `spu`, counted.
 // Ruled out: a bottom field at offset 0; a top field that goes on into the bottom field.
 pub fn measure_rows(unit: &[u8], spu: Spu) -> FieldAnswer
-    requires { ⌜ ((bs : List Block) × (controlAt (now unit) ≡ ok bs) × (spu ≡ spuOf (told bs) 0)) ⌝ }
+    requires { ⌜ ((bs : List Block) × (controlAt (now unit) ≡ ok bs) × (spu ≡ spuOf (told bs) nothing)) ⌝ }
     ensures { λ r. ⌜ ((bs : List Block) → controlAt (now (unit .entry)) ≡ ok bs → r ≡ fieldAnswer (width (told bs)) (rowsAt (now (unit .entry)) (told bs))) ⌝ }
 {
     let l = laid_out(unit, spu);
@@ -104,7 +105,7 @@ pub fn measure_rows(unit: &[u8], spu: Spu) -> FieldAnswer
 // The same rows in the index map, which is as found on a refusal.
 // Ruled out: a row that stays 0 left as found; a refusal after the first pixel is stored.
 pub fn decode_rows(unit: &[u8], spu: Spu, pixels: &mut [u8]) -> FieldAnswer
-    requires { ⌜ ((bs : List Block) × (controlAt (now unit) ≡ ok bs) × (spu ≡ spuOf (told bs) 0) × (width (told bs) * height (told bs) ≤ length (now pixels))) ⌝ }
+    requires { ⌜ ((bs : List Block) × (controlAt (now unit) ≡ ok bs) × (spu ≡ spuOf (told bs) nothing) × (width (told bs) * height (told bs) ≤ length (now pixels))) ⌝ }
     ensures { λ r. ⌜ ((bs : List Block) → controlAt (now (unit .entry)) ≡ ok bs → RowsDecoded (now (unit .entry)) (told bs) (now (pixels .entry)) r (now (pixels .exit))) ⌝ }
 {
     let l = laid_out(unit, spu);
@@ -128,23 +129,23 @@ pub fn decode_rows(unit: &[u8], spu: Spu, pixels: &mut [u8]) -> FieldAnswer
     )
 }
 
-// The record with the number of codes in it.
-fn with_codes(spu: Spu, codes: usize) -> Spu
-    ensures { λ r. ⌜ ((t : Told) → spu ≡ spuOf t 0 → r ≡ spuOf t codes) ⌝ }
+// The record with what its rows count.
+fn with_counts(spu: Spu, counts: Counts) -> Spu
+    ensures { λ r. ⌜ ((t : Told) → spu ≡ spuOf t nothing → r ≡ spuOf t counts) ⌝ }
 {
     let mut s = spu;
-    s.codes = codes;
+    s.counts = counts;
     s
 }
 
-// A unit's record and the number of its codes, with no map and no words.
+// A unit's record with what its rows count, with no map and no words.
 // Ruled out: a record of a unit whose rows are not all there; the number of one field's codes.
 pub fn measure_spu(unit: &[u8]) -> SpuAnswer
     ensures { λ r. ⌜ (r ≡ spuAnswer (unitAt (now (unit .entry)))) × Measures (now (unit .entry)) r ⌝ }
 {
     match control::parse_control(unit) {
         ControlAnswer::Tells(spu) => match measure_rows(unit, spu) {
-            FieldAnswer::Rows(counts) => SpuAnswer::Shows(with_codes(spu, counts.codes)),
+            FieldAnswer::Rows(counts) => SpuAnswer::Shows(with_counts(spu, counts)),
             FieldAnswer::Refused(number) => SpuAnswer::Refused(number),
         },
         ControlAnswer::Refused(number) => SpuAnswer::Refused(number),
@@ -164,7 +165,7 @@ fn store_bands(unit: &[u8], count: usize, words: &mut [u16])
 // The rest of a unit whose control blocks tell `spu`.
 // Ruled out: words stored where the rows are refused; a map painted where the words do not fit.
 pub fn decode_told(unit: &[u8], spu: Spu, pixels: &mut [u8], words: &mut [u16]) -> SpuAnswer
-    requires { ⌜ ((bs : List Block) × (controlAt (now unit) ≡ ok bs) × (spu ≡ spuOf (told bs) 0)) ⌝ }
+    requires { ⌜ ((bs : List Block) × (controlAt (now unit) ≡ ok bs) × (spu ≡ spuOf (told bs) nothing)) ⌝ }
     ensures { λ r. ⌜ Decoded (now (unit .entry)) (now (pixels .entry)) (now (words .entry)) r (now (pixels .exit)) (now (words .exit)) ⌝ }
 {
     let l = laid_out(unit, spu);
@@ -177,7 +178,7 @@ pub fn decode_told(unit: &[u8], spu: Spu, pixels: &mut [u8], words: &mut [u16]) 
     match decode_rows(unit, spu, pixels) {
         FieldAnswer::Rows(counts) => {
             store_bands(unit, spu.band_words, words);
-            SpuAnswer::Shows(with_codes(spu, counts.codes))
+            SpuAnswer::Shows(with_counts(spu, counts))
         }
         FieldAnswer::Refused(number) => SpuAnswer::Refused(number),
     }

@@ -17,13 +17,14 @@ use Rattle.control_model.specs.Answers.{spuOf}
 use Rattle.spu_model.specs.Unit.{hasBottom, rowsAt, unitAt}
 use Rattle.spu_model.specs.Answers.{spuAnswer, unitMap}
 use Rattle.spu_model.specs.declared.SpuAnswer.the-variants as spu-answer
+use Rattle.rle_model.specs.Answers.{listedCounts}
 
 -- no bottom field at offset 0
 pub no-bottom : hasBottom 9 0 ≡ false
 no-bottom = refl
 
 -- one row of two codes
-pub two-codes : spuAnswer (ok (record { blocks = []; rows = (code 0 1 5 ∷ code 1 1 6 ∷ []) ∷ [] })) ≡ spu-answer.Shows (spuOf (told []) 2)
+pub two-codes : spuAnswer (ok (record { blocks = []; rows = (code 0 1 5 ∷ code 1 1 6 ∷ []) ∷ [] })) ≡ spu-answer.Shows (spuOf (told []) (record { codes = 2 }))
 unfolding codesIn
 two-codes = refl
 

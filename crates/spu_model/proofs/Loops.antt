@@ -23,12 +23,12 @@ use Rattle.control_model.specs.Fill.{unitWords}
 use Rattle.control_model.specs.declared.Spu.{Spu}
 use Rattle.control_model.specs.declared.ControlAnswer.the-variants as control-answer
 use Rattle.control_model.proofs.Fill.{control-is}
-use Rattle.rle_model.specs.Answers.{fieldCounts, fieldAnswer}
+use Rattle.rle_model.specs.Answers.{fieldCounts, fieldAnswer, nothing, listedCounts}
 use Rattle.rle_model.specs.Fields.{fieldsAt, FieldsDecoded}
 use Rattle.rle_model.specs.declared.Counts.{Counts}
 use Rattle.rle_model.specs.declared.FieldAnswer.{FieldAnswer}
 use Rattle.rle_model.specs.declared.FieldAnswer.the-variants as field-answer
-use Rattle.rle_model.proofs.Claim.{counts-codes}
+use Rattle.rle_model.proofs.Claim.{counts-listed}
 use Rattle.spu_model.specs.Unit.{hasBottom, offsetsOf, rowsAt, listedUnit, unitAt, unitIn}
 use Rattle.spu_model.specs.Answers.{layoutOf, spuAnswer, RowsDecoded, Decoded}
 use Rattle.spu_model.specs.declared.Layout.{Layout}
@@ -63,7 +63,7 @@ pub record Known (u : List ℕ) (s : Spu) : Type 0 where
   pub head : 4 ≤ length u
   pub inside : controlWord u ≤ length u
 
-pub known : (u : List ℕ) (s : Spu) → ((bs : List Block) × (controlAt u ≡ ok bs) × (s ≡ spuOf (told bs) 0)) → Known u s
+pub known : (u : List ℕ) (s : Spu) → ((bs : List Block) × (controlAt u ≡ ok bs) × (s ≡ spuOf (told bs) nothing)) → Known u s
 unfolding spuOf
 known u s k =
     let n = control-is u (k .0) (k .1) in
@@ -82,10 +82,10 @@ known u s k =
     }
 
 -- blocks that are read are the ones that were
-pub same : (u : List ℕ) (s : Spu) → ((bs : List Block) × (controlAt u ≡ ok bs) × (s ≡ spuOf (told bs) 0)) → (bs : List Block) → controlAt u ≡ ok bs → s ≡ spuOf (told bs) 0
-same u s k bs e = k .2 ∙ ap (λ (l : List Block). spuOf (told l) 0) (ok-injective (sym (k .1) ∙ e))
+pub same : (u : List ℕ) (s : Spu) → ((bs : List Block) × (controlAt u ≡ ok bs) × (s ≡ spuOf (told bs) nothing)) → (bs : List Block) → controlAt u ≡ ok bs → s ≡ spuOf (told bs) nothing
+same u s k bs e = k .2 ∙ ap (λ (l : List Block). spuOf (told l) nothing) (ok-injective (sym (k .1) ∙ e))
 
-pub laid : (u : List ℕ) (t : Told) (s : Spu) (a b x : ℕ) (y : Bool) → s ≡ spuOf t 0 → a ≡ lengthWord u → b ≡ controlWord u
+pub laid : (u : List ℕ) (t : Told) (s : Spu) (a b x : ℕ) (y : Bool) → s ≡ spuOf t nothing → a ≡ lengthWord u → b ≡ controlWord u
     → x ≡ topEnd b (offsetsOf (s .«top_rle_off») (s .«bot_rle_off»)) → y ≡ hasBottom b (s .«bot_rle_off»)
     → _≡_ {A = Layout}
     (record { width = s .x2 + 1 - s .x1; height = s .y2 + 1 - s .y1; end = a; control = b; top = s .«top_rle_off»; «top_end» = x; bottom = s .«bot_rle_off»; shown = y })
@@ -149,10 +149,10 @@ module _ (u : List ℕ) (t : Told) (l : Layout) (q : l ≡ layoutOf u t) where
 -- ---- A whole unit
 
 -- what an answer for control blocks says
-pub told-by : (u : List ℕ) (s : Spu) → control-answer.Tells s ≡ controlAnswer u → (bs : List Block) × (controlAt u ≡ ok bs) × (s ≡ spuOf (told bs) 0)
+pub told-by : (u : List ℕ) (s : Spu) → control-answer.Tells s ≡ controlAnswer u → (bs : List Block) × (controlAt u ≡ ok bs) × (s ≡ spuOf (told bs) nothing)
 told-by u s e = go (controlAt u) refl e
   where
-    go : (r : Res (List Block)) → controlAt u ≡ r → control-answer.Tells s ≡ chainAnswer untold r → (bs : List Block) × (controlAt u ≡ ok bs) × (s ≡ spuOf (told bs) 0)
+    go : (r : Res (List Block)) → controlAt u ≡ r → control-answer.Tells s ≡ chainAnswer untold r → (bs : List Block) × (controlAt u ≡ ok bs) × (s ≡ spuOf (told bs) nothing)
     go (refuse n) q f = let y : _≡_ {A = ℕ} 0 1 = cc in absurd (omega arith)
     go (ok bs) q f = (bs, q, cc)
 
@@ -167,14 +167,14 @@ refused-by u n e = go (controlAt u) refl e
 record Rowed (u : List ℕ) (t : Told) (b : Counts) : Type 0 where
   rs : List (List Code)
   reads : rowsAt u t ≡ ok rs
-  count : b .codes ≡ codesIn rs
+  count : b ≡ listedCounts (width t) rs
 
 rowed : (u : List ℕ) (t : Told) (b : Counts) → field-answer.Rows b ≡ fieldAnswer (width t) (rowsAt u t) → Rowed u t b
 rowed u t b e = go (rowsAt u t) refl e
   where
     go : (r : Res (List (List Code))) → rowsAt u t ≡ r → field-answer.Rows b ≡ fieldAnswer (width t) r → Rowed u t b
     go (refuse n) q f = let y : _≡_ {A = ℕ} 0 1 = cc in absurd (omega arith)
-    go (ok rs) q f = let y : b ≡ fieldCounts (width t) rs = cc in record { rs = rs; reads = q; count = ap (λ (x : Counts). x .codes) y ∙ counts-codes (width t) rs }
+    go (ok rs) q f = let y : b ≡ fieldCounts (width t) rs = cc in record { rs = rs; reads = q; count = y ∙ counts-listed (width t) rs }
 
 unrowed : (u : List ℕ) (t : Told) (n : ℕ) → field-answer.Refused n ≡ fieldAnswer (width t) (rowsAt u t) → rowsAt u t ≡ refuse n
 unrowed u t n e = go (rowsAt u t) refl e
@@ -192,7 +192,7 @@ unfolding unitIn
 decoded-refused u px ws n e = record { answer = rw e; pixels = rw e; words = rw e }
 
 module _ (u : List ℕ) (bs : List Block) (e : controlAt u ≡ ok bs) where
-  pub measured-shows : (b : Counts) (s : Spu) → field-answer.Rows b ≡ fieldAnswer (width (told bs)) (rowsAt u (told bs)) → s ≡ spuOf (told bs) (b .codes)
+  pub measured-shows : (b : Counts) (s : Spu) → field-answer.Rows b ≡ fieldAnswer (width (told bs)) (rowsAt u (told bs)) → s ≡ spuOf (told bs) b
       → spu-answer.Shows s ≡ spuAnswer (unitAt u)
   unfolding unitAt
   measured-shows b s f q =
@@ -227,7 +227,7 @@ module _ (u : List ℕ) (bs : List Block) (e : controlAt u ≡ ok bs) where
       fits = rw (e, le-leb pixels-needed (length px) h, le-leb words-needed (length ws) k)
 
       pub decoded-shows : (a : FieldAnswer) (b : Counts) (s : Spu) (px′ ws′ : List ℕ) → a ≡ field-answer.Rows b → RowsDecoded u (told bs) px a px′ → ws′ ≡ sets ws 0 (unitWords u)
-          → s ≡ spuOf (told bs) (b .codes) → Decoded u px ws (spu-answer.Shows s) px′ ws′
+          → s ≡ spuOf (told bs) b → Decoded u px ws (spu-answer.Shows s) px′ ws′
       decoded-shows a b s px′ ws′ g d w q =
           let r = rowed u (told bs) b (sym g ∙ d .answer) in
           let f : unitIn u (length px) (length ws) ≡ ok (listedUnit bs (r .rs)) = fits ∙ ap (mapRes (listedUnit bs)) (r .reads) in
@@ -253,7 +253,7 @@ pub area-small : (a b : ℕ) → a ≤ 65536 → b ≤ 65536 → a * b ≤ 42949
 area-small a b h k = let m : a * b ≤ 65536 * b = mul-le-mul-right b h in omega arith
 
 -- the words that the bands of a unit take
-pub needs-words : (s : Spu) (t : Told) → s ≡ spuOf t 0 → s .«band_words» ≡ length (bandWords (t .bands))
+pub needs-words : (s : Spu) (t : Told) → s ≡ spuOf t nothing → s .«band_words» ≡ length (bandWords (t .bands))
 unfolding spuOf
 needs-words s t e = ap (λ (r : Spu). r .«band_words») e
 

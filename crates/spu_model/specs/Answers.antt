@@ -13,7 +13,7 @@ use Rattle.grammar.specs.Picture.{topEnd, ListedUnit}
 use Rattle.control_model.specs.Answers.{spuOf}
 use Rattle.rle_model.specs.Answers.{fieldAnswer}
 use Rattle.rle_model.specs.declared.FieldAnswer.{FieldAnswer}
-use Rattle.spu_model.specs.Unit.{hasBottom, rowsAt, unitIn}
+use Rattle.spu_model.specs.Unit.{hasBottom, rowsAt, unitIn, countsOf}
 use Rattle.spu_model.specs.declared.Layout.{Layout}
 use Rattle.spu_model.specs.declared.SpuAnswer.{SpuAnswer}
 use Rattle.spu_model.specs.declared.SpuAnswer.the-variants as spu-answer
@@ -32,9 +32,9 @@ layoutOf u t =
       shown = hasBottom (controlWord u) (t .fields .bottom);
     }
 
--- the record of what the blocks tell, with the number of codes that the rows list
+-- the record of what the blocks tell, with what the rows count
 abbrev pub spuAnswer : Res ListedUnit → SpuAnswer
-spuAnswer (ok l) = spu-answer.Shows (spuOf (told (l .blocks)) (codesIn (l .rows)))
+spuAnswer (ok l) = spu-answer.Shows (spuOf (told (l .blocks)) (countsOf l))
 spuAnswer (refuse n) = spu-answer.Refused n
 
 -- the index map and the words of what is listed; none on a refusal

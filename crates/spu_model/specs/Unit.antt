@@ -13,6 +13,8 @@ use Rattle.grammar.specs.Record.{Offsets, Told, told, width, height}
 use Rattle.grammar.specs.Picture.{topEnd, ListedUnit}
 use Rattle.control_model.specs.Chain.{controlAt}
 use Rattle.rle_model.specs.Fields.{fieldsAt}
+use Rattle.rle_model.specs.declared.Counts.{Counts}
+use Rattle.rle_model.specs.Answers.{listedCounts}
 
 -- whether there is a bottom field, in a unit whose control blocks start at C (FORMAT 3.8)
 abbrev pub hasBottom : ℕ → ℕ → Bool
@@ -29,6 +31,10 @@ rowsAt u t =
 
 abbrev pub listedUnit : List Block → List (List Code) → ListedUnit
 listedUnit bs rs = record { blocks = bs; rows = rs }
+
+-- what its rows count
+abbrev pub countsOf : ListedUnit → Counts
+countsOf l = listedCounts (width (told (l .blocks))) (l .rows)
 
 -- a unit with no map and no words lent
 unfoldable pub unitAt : List ℕ → Res ListedUnit

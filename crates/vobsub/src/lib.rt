@@ -10,6 +10,7 @@ use ps_model::UnitAnswer;
 use spu_model::SpuAnswer;
 use vobsub_model::CanvasAnswer;
 use vobsub_model::Four;
+use vobsub_model::Request;
 use vobsub_model::Shown;
 ghost use mathlib.Core.Path.{_≡_};
 ghost use mathlib.Core.List.{List, [], _∷_};
@@ -28,6 +29,7 @@ ghost use Rattle.vobsub_model.specs.Call.{lent};
 ghost use Rattle.vobsub_model.specs.Answers.{UnitPainted, shownOf, FoundPainted, CuePainted};
 ghost use Rattle.vobsub_model.specs.Claim.{Exactly};
 ghost use Rattle.vobsub_model.specs.Paint.{lookIs, wordLook, sameLook, fourColours, tableLine, mapCanvas};
+ghost use Rattle.rle_model.specs.Answers.{nothing};
 
 // The nibble of `four` for colour c.
 fn nibble_of(four: u16, c: u8) -> u8
@@ -242,7 +244,7 @@ fn paint_told(
     words: &mut [u16],
     canvas: &mut [u8],
 ) -> SpuAnswer
-    requires { ⌜ ((bs : List Block) × (controlAt (now unit) ≡ ok bs) × (spu ≡ spuOf (told bs) 0)) ⌝ }
+    requires { ⌜ ((bs : List Block) × (controlAt (now unit) ≡ ok bs) × (spu ≡ spuOf (told bs) nothing)) ⌝ }
     ensures { λ r. ⌜ UnitPainted (now (unit .entry)) palette (now (pixels .entry)) (now (words .entry)) (now (canvas .entry)) r (now (pixels .exit)) (now (words .exit)) (now (canvas .exit)) ⌝ }
 {
     let width = spu.x2 as usize + 1 - spu.x1 as usize;
@@ -302,6 +304,7 @@ fn shown_of(c: CueAnswer, s: Spu) -> Shown
 {
     let width = s.x2 as usize + 1 - s.x1 as usize;
     let height = s.y2 as usize + 1 - s.y1 as usize;
+    let counts = s.counts;
     Shown {
         start: c.start,
         has_duration: c.has_duration,
@@ -312,7 +315,7 @@ fn shown_of(c: CueAnswer, s: Spu) -> Shown
         y1: s.y1,
         width,
         height,
-        codes: s.codes,
+        counts,
     }
 }
 
@@ -352,7 +355,8 @@ pub fn decode_cue(
     ensures { λ r. ⌜ CuePainted (now (text .entry)) (now (file .entry)) (wanted cue) (lent (now (scratch .entry)) (now (pixels .entry)) (now (words .entry)) (now (canvas .entry))) r (lent (now (scratch .exit)) (now (pixels .exit)) (now (words .exit)) (now (canvas .exit)))
         × Exactly (now (text .entry)) (now (file .entry)) (wanted cue) (lent (now (scratch .entry)) (now (pixels .entry)) (now (words .entry)) (now (canvas .entry))) r (lent (now (scratch .exit)) (now (pixels .exit)) (now (words .exit)) (now (canvas .exit))) ⌝ }
 {
-    let c = idx::pick_cue(text, cue);
+    let request = Request { cue };
+    let c = idx::pick_cue(text, request.cue);
     if c.refused != 0 {
         return CanvasAnswer::Refused(c.refused);
     }

@@ -36,6 +36,7 @@ use Rattle.vobsub_model.proofs.Claim.{claim}
 use Rattle.vobsub_model.specs.declared.Shown.{Shown}
 use Rattle.vobsub_model.specs.declared.CanvasAnswer.{CanvasAnswer}
 use Rattle.vobsub_model.specs.declared.CanvasAnswer.the-variants as canvas-answer
+use Rattle.spu_model.specs.Unit.{countsOf}
 
 found-at : (text file : List ℕ) (cue n : ℕ) (ls : List Said) (at : Cue) (p : ℕ) → textOf text ≡ ok ls → cueAt (cuesOf ls) cue ≡ some at → p ≡ at .position
     → foundFor text file (wanted cue) n ≡ mapRes (found ls) (unitAt subpicture file p n)
@@ -106,11 +107,11 @@ module _ (text file : List ℕ) (cue : ℕ) (s px ws cv : List ℕ) where
               (refused-all n (found-is ∙ ap (mapRes (found ls)) f ∙ ap refuse (sym z)))
 
       -- what is shown is what the reading shows
-      shown-is : (m : Form) (l : ListedUnit) → shownOf c (spuOf (told (l .blocks)) (codesIn (l .rows))) ≡ shownGiven (shown (reading (wanted cue) (found ls m) l))
+      shown-is : (m : Form) (l : ListedUnit) → shownOf c (spuOf (told (l .blocks)) (countsOf l)) ≡ shownGiven (shown (reading (wanted cue) (found ls m) l))
       unfolding shownGiven shown spuOf
       shown-is m l =
           let z : c .start ≡ startAt (cueAt (cuesOf ls) cue) = gives .start ∙ ap startAt (sym cue-is) in
-          let t : Shown = shownOf c (spuOf (told (l .blocks)) (codesIn (l .rows))) in
+          let t : Shown = shownOf c (spuOf (told (l .blocks)) (countsOf l)) in
           λ i. record {
             start = z i;
             «has_duration» = gives .lasts i;
@@ -121,7 +122,7 @@ module _ (text file : List ℕ) (cue : ℕ) (s px ws cv : List ℕ) where
             y1 = t .y1;
             width = t .width;
             height = t .height;
-            codes = t .codes;
+            counts = t .counts;
           }
 
       module _ (m : Form) (f : unitAt subpicture file (c .position) (length s) ≡ ok m) where

@@ -50,7 +50,7 @@ unit-painted = readings.small-canvas
 abbrev given : Shown
 given = record { start = pos 0; duration = none; start-delay = 0; stop-delay = 0; x1 = 1; y1 = 2; width = 3; height = 4; codes = 5 }
 
-pub values-given : (shownGiven given .x1 ≡ 1) × (shownGiven given .y1 ≡ 2) × (shownGiven given .codes ≡ 5)
+pub values-given : (shownGiven given .x1 ≡ 1) × (shownGiven given .y1 ≡ 2) × (shownGiven given .counts .codes ≡ 5)
 unfolding shownGiven
 values-given = (refl, refl, refl)
 
@@ -59,8 +59,8 @@ abbrev blocks : List Block
 blocks = record { place = 0; delay = 0; next = 0; commands = record { place = 4; order = area 1 3 2 4 } ∷ [] } ∷ []
 
 pub values-recorded :
-    (shownOf (cueAnswer (refuse no-cue)) (spuOf (told blocks) 5) .x1 ≡ 1)
-    × (shownOf (cueAnswer (refuse no-cue)) (spuOf (told blocks) 5) .y1 ≡ 2)
-    × (shownOf (cueAnswer (refuse no-cue)) (spuOf (told blocks) 5) .codes ≡ 5)
+    (shownOf (cueAnswer (refuse no-cue)) (spuOf (told blocks) (record { codes = 5 })) .x1 ≡ 1)
+    × (shownOf (cueAnswer (refuse no-cue)) (spuOf (told blocks) (record { codes = 5 })) .y1 ≡ 2)
+    × (shownOf (cueAnswer (refuse no-cue)) (spuOf (told blocks) (record { codes = 5 })) .counts .codes ≡ 5)
 unfolding spuOf untold tellBlock tellChain
 values-recorded = (refl, refl, refl)

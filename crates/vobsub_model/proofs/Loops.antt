@@ -20,7 +20,7 @@ use Rattle.grammar.specs.Reading.{unitCanvas}
 use Rattle.control_model.specs.Chain.{controlAt}
 use Rattle.control_model.specs.Answers.{spuOf}
 use Rattle.control_model.specs.declared.Spu.{Spu}
-use Rattle.spu_model.specs.Unit.{rowsAt, listedUnit, unitAt, unitIn}
+use Rattle.spu_model.specs.Unit.{rowsAt, listedUnit, unitAt, unitIn, countsOf}
 use Rattle.spu_model.specs.Answers.{spuAnswer, unitMap, unitBands, Decoded}
 use Rattle.spu_model.specs.declared.SpuAnswer.{SpuAnswer}
 use Rattle.spu_model.specs.declared.SpuAnswer.the-variants as spu-answer
@@ -33,14 +33,15 @@ use Rattle.vobsub_model.specs.Answers.{canvasStored, UnitPainted, paints
 use Rattle.vobsub_model.specs.declared.CanvasAnswer.{CanvasAnswer}
 use Rattle.idx_model.specs.declared.CueAnswer.{CueAnswer}
 use Rattle.vobsub_model.proofs.Listed.{told-counted, told-look, stored-canvas}
+use Rattle.rle_model.specs.Answers.{nothing, listedCounts}
 
 -- the sizes that a record gives
-pub area-is : (s : Spu) (t : Told) → s ≡ spuOf t 0 → (s .x2 + 1 - s .x1) * (s .y2 + 1 - s .y1) ≡ width t * height t
+pub area-is : (s : Spu) (t : Told) → s ≡ spuOf t nothing → (s .x2 + 1 - s .x1) * (s .y2 + 1 - s .y1) ≡ width t * height t
 unfolding spuOf
 area-is s t e = ap (λ (r : Spu). (r .x2 + 1 - r .x1) * (r .y2 + 1 - r .y1)) e
 
 -- what a record asks of a map, of words and of a canvas is what was told asks of them
-module _ (s : Spu) (t : Told) (e : s ≡ spuOf t 0) (n : ℕ) where
+module _ (s : Spu) (t : Told) (e : s ≡ spuOf t nothing) (n : ℕ) where
   abbrev sides : ℕ
   sides = (s .x2 + 1 - s .x1) * (s .y2 + 1 - s .y1)
 
@@ -108,7 +109,7 @@ module _ (u : List ℕ) (bs : List Block) (e : controlAt u ≡ ok bs) (palette p
             go (ok y) f g = let z : _≡_ {A = ℕ} 0 1 = cc in absurd (omega arith)
             go (refuse m) f g = rw g
 
-        pub unit-shows : (r : SpuAnswer) (s t : Spu) (px′ ws′ cv′ : List ℕ) → t ≡ spuOf (told bs) 0 → Decoded u px ws r px′ ws′ → r ≡ spu-answer.Shows s
+        pub unit-shows : (r : SpuAnswer) (s t : Spu) (px′ ws′ cv′ : List ℕ) → t ≡ spuOf (told bs) nothing → Decoded u px ws r px′ ws′ → r ≡ spu-answer.Shows s
             → cv′ ≡ sets cv 0 (mapCanvas palette (wordLook (take (t .«band_words») ws′) (lookIs (t .«palette_sel») (t .alpha))) (t .x1) (t .y1) (t .x2 + 1 - t .x1) (t .y2 + 1 - t .y1) px′)
             → UnitPainted u palette px ws cv (spu-answer.Shows s) px′ ws′ cv′
         unfolding unitAt unitCanvas spuOf
@@ -134,7 +135,7 @@ module _ (u : List ℕ) (bs : List Block) (e : controlAt u ≡ ok bs) (palette p
                 let o = unit-iff u y .0 (a .0) in
                 let b : y .blocks ≡ bs = listed-blocks y (a .0) in
                 let T : Told = told (y .blocks) in
-                let j : t ≡ spuOf T 0 = i ∙ ap (λ (x : List Block). spuOf (told x) 0) (sym b) in
+                let j : t ≡ spuOf T nothing = i ∙ ap (λ (x : List Block). spuOf (told x) nothing) (sym b) in
                 let c = told-counted u (y .blocks) (o .chain) in
                 let n : 0 + length (bandWords (T .bands)) ≤ length ws = omega (arith, a .1 .1) in
                 let v : take (length (bandWords (T .bands))) ws′ ≡ bandWords (T .bands) =
@@ -168,8 +169,8 @@ shows-sides u palette px ws cv r s px′ ws′ cv′ d q = go (canvasIn u (lengt
         let c = check-ok (leb (length (bandWords (told bs .bands))) (length ws)) short-words _ (b .1) in
         let k = check-ok (leb (4 * (width (told bs) * height (told bs))) (length cv)) short-canvas _ (c .1) in
         let m = mapRes-ok (listedUnit bs) (rowsAt u (told bs)) (k .1) in
-        let y = known u (spuOf (told bs) 0) (bs, a .1, refl) in
-        let t : s ≡ spuOf (told bs) (codesIn (m .0)) = let z : s ≡ spuOf (told (l .blocks)) (codesIn (l .rows)) = cc in z ∙ ap (λ (v : ListedUnit). spuOf (told (v .blocks)) (codesIn (v .rows))) (sym (m .2)) in
+        let y = known u (spuOf (told bs) nothing) (bs, a .1, refl) in
+        let t : s ≡ spuOf (told bs) (listedCounts (width (told bs)) (m .0)) = let z : s ≡ spuOf (told (l .blocks)) (countsOf l) = cc in z ∙ ap (λ (v : ListedUnit). spuOf (told (v .blocks)) (countsOf v)) (sym (m .2)) in
         (subst (λ (v : Spu). v .x1 ≤ v .x2) (sym t) (y .wide), subst (λ (v : Spu). v .y1 ≤ v .y2) (sym t) (y .high))
 
 pub found-painted : (u v : List ℕ) (c : CueAnswer) (px ws cv : List ℕ) (r : SpuAnswer) (px′ ws′ cv′ : List ℕ) → u ≡ v → UnitPainted u (c .palette) px ws cv r px′ ws′ cv′

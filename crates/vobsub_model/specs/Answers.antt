@@ -47,7 +47,7 @@ shownOf c s =
       y1 = s .y1;
       width = s .x2 + 1 - s .x1;
       height = s .y2 + 1 - s .y1;
-      codes = s .codes;
+      counts = s .counts;
     }
 
 abbrev pub paintsOf : CueAnswer → SpuAnswer → CanvasAnswer
@@ -75,7 +75,7 @@ shownGiven g =
       y1 = g .y1;
       width = g .width;
       height = g .height;
-      codes = g .codes;
+      counts = record { codes = g .codes };
     }
 
 abbrev pub canvasAnswer : Res Reading → CanvasAnswer

@@ -35,7 +35,7 @@ pub record Equal (x : Reading) (b : Lent) (r : CanvasAnswer) (b′ : Lent) : Typ
   pub y1 : says .y1 ≡ shown x .y1
   pub width : says .width ≡ shown x .width
   pub height : says .height ≡ shown x .height
-  pub codes : says .codes ≡ shown x .codes
+  pub codes : says .counts .codes ≡ shown x .codes
   pub in-scratch : b′ .scratch ≡ sets (b .scratch) 0 (formStored (x .form))
   pub in-pixels : b′ .pixels ≡ sets (b .pixels) 0 (mapOf x)
   pub in-words : b′ .words ≡ sets (b .words) 0 (wordsOf x)

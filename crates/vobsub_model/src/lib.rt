@@ -1,9 +1,15 @@
 // The one call without its functions: what it answers, its definitions and those of painting, their laws and the claim on whole files.
+use rle_model::Counts;
 
 // Four selectors and four alphas, colour 0 in the top nibble of each.
 pub struct Four {
     pub selectors: u16,
     pub alphas: u16,
+}
+
+// What a caller asks for.
+pub struct Request {
+    pub cue: usize,
 }
 
 // What is shown of a cue.
@@ -21,8 +27,8 @@ pub struct Shown {
     pub y1: u16,
     pub width: usize,
     pub height: usize,
-    // How many run codes were read.
-    pub codes: usize,
+    // What the rows count.
+    pub counts: Counts,
 }
 
 // What a cue gives.

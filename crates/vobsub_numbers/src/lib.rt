@@ -2,6 +2,7 @@
 use control_model::Spu;
 use idx_model::CueAnswer;
 use idx_model::IdxAnswer;
+use rle_model::Counts;
 use vobsub_model::Shown;
 ghost use mathlib.Core.Bool.{cond};
 ghost use mathlib.Core.Path.{_≡_};
@@ -31,9 +32,9 @@ fn in_order(
     bot_rle_off: u16,
     saw_chg_colcon: bool,
     band_words: usize,
-    codes: usize,
+    counts: Counts,
 ) -> [usize; 16]
-    ensures { λ r. ⌜ r ≡ spuNumbers (record { x1 = x1; y1 = y1; x2 = x2; y2 = y2; «palette_sel» = «palette_sel»; alpha = alpha; started = started; «start_delay_raw» = «start_delay_raw»; stopped = stopped; «stop_delay_raw» = «stop_delay_raw»; «forced_display» = «forced_display»; «top_rle_off» = «top_rle_off»; «bot_rle_off» = «bot_rle_off»; «saw_chg_colcon» = «saw_chg_colcon»; «band_words» = «band_words»; codes = codes }) ⌝ }
+    ensures { λ r. ⌜ r ≡ spuNumbers (record { x1 = x1; y1 = y1; x2 = x2; y2 = y2; «palette_sel» = «palette_sel»; alpha = alpha; started = started; «start_delay_raw» = «start_delay_raw»; stopped = stopped; «stop_delay_raw» = «stop_delay_raw»; «forced_display» = «forced_display»; «top_rle_off» = «top_rle_off»; «bot_rle_off» = «bot_rle_off»; «saw_chg_colcon» = «saw_chg_colcon»; «band_words» = «band_words»; counts = counts }) ⌝ }
 {
     let starts = flag(started);
     let stops = flag(stopped);
@@ -55,7 +56,7 @@ fn in_order(
         bot_rle_off as usize,
         changed,
         band_words,
-        codes,
+        counts.codes,
     ]
 }
 
@@ -63,6 +64,7 @@ fn in_order(
 pub fn numbers_of(s: Spu) -> [usize; 16]
     ensures { λ r. ⌜ r ≡ spuNumbers s ⌝ }
 {
+    let counts = s.counts;
     in_order(
         s.x1,
         s.y1,
@@ -79,7 +81,7 @@ pub fn numbers_of(s: Spu) -> [usize; 16]
         s.bot_rle_off,
         s.saw_chg_colcon,
         s.band_words,
-        s.codes,
+        counts,
     )
 }
 
@@ -108,6 +110,7 @@ pub fn shown_numbers_of(s: Shown) -> [u64; 9]
     ensures { λ r. ⌜ r ≡ shownNumbers s ⌝ }
 {
     let lasts = flag(s.has_duration);
+    let counts = s.counts;
     [
         lasts as u64,
         s.duration,
@@ -117,6 +120,6 @@ pub fn shown_numbers_of(s: Shown) -> [u64; 9]
         s.y1 as u64,
         s.width as u64,
         s.height as u64,
-        s.codes as u64,
+        counts.codes as u64,
     ]
 }

@@ -58,7 +58,7 @@ put-delays-requires c κs = search needs
 
 returns : tie.Need-returns
 unfolding shownLine
-returns c = put-put (put-as (ap (λ (z : ℤ). times (c .before .before .before .before .before .before .before .before .before .before .before .before .before .before .args .n) z (durationIs (c .before .before .before .before .before .before .before .before .before .before .before .before .before .before .args .lasts) (c .before .before .before .before .before .before .before .before .before .before .before .before .before .before .args .duration))) (toZ-ofZ {w = w64} (c .before .before .before .before .before .before .before .before .before .before .before .before .before .before .fits .start))) (c .before .before .before .before .before .before .before .before .put-times .ensures)) (put-put (c .before .before .before .before .put-area .ensures) (c .put-delays .ensures))
+returns c = put-put (put-as (ap (λ (z : ℤ). times (c .before .before .before .before .before .before .before .before .before .before .before .before .before .before .before .args .n) z (durationIs (c .before .before .before .before .before .before .before .before .before .before .before .before .before .before .before .args .lasts) (c .before .before .before .before .before .before .before .before .before .before .before .before .before .before .before .args .duration))) (toZ-ofZ {w = w64} (c .before .before .before .before .before .before .before .before .before .before .before .before .before .before .before .fits .start))) (c .before .before .before .before .before .before .before .before .put-times .ensures)) (put-put (c .before .before .before .before .put-area .ensures) (c .put-delays .ensures))
 
 pub put-shown-spec : {M : Type 1} → statement M
 put-shown-spec =

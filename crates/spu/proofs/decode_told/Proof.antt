@@ -31,8 +31,8 @@ enum-known-counts c = search needs
 store-bands-requires : tie.Need-store-bands-requires
 store-bands-requires c κs = (is-ok _ _ (c .before .before .before .before .before .before .before .before .before .before .before .before .before .before .before .before .pre .1), needs-words _ _ (c .before .before .before .before .before .before .before .before .before .before .before .before .before .before .before .before .pre .2) ∙ words-are _ _ (c .before .before .before .before .before .before .before .before .before .before .before .before .before .before .before .before .pre .1), c .before .before .before .before .before .before .before .before .if2 .left)
 
-with-codes-requires : tie.Need-with-codes-requires
-with-codes-requires c κs = search needs
+with-counts-requires : tie.Need-with-counts-requires
+with-counts-requires c κs = search needs
 
 enum-known-number : tie.Need-enum-known-number
 enum-known-number c = search needs
@@ -47,7 +47,7 @@ returns-3 : tie.Need-returns-3
 returns-3 c =
     let bs = c .before .before .before .before .before .before .before .before .before .before .before .before .before .before .before .before .before .before .before .before .pre .0 in
     let e = c .before .before .before .before .before .before .before .before .before .before .before .before .before .before .before .before .before .before .before .before .pre .1 in
-    decoded-shows _ bs e _ _ (subst (λ n. n ≤ length (c .before .before .before .before .before .before .before .before .before .before .before .before .before .before .before .before .before .before .before .before .args .pixels .now)) (ap (λ (l : Layout). l .width * l .height) (c .before .before .before .before .before .before .before .before .before .before .before .before .before .before .before .before .laid-out .ensures .2 (c .before .before .before .before .before .before .before .before .before .before .before .before .before .before .before .before .before .before .before .before .pre .0) (c .before .before .before .before .before .before .before .before .before .before .before .before .before .before .before .before .before .before .before .before .pre .1))) (c .before .before .before .before .before .before .before .before .before .before .before .before .before .before .if1 .left)) (subst (λ n. n ≤ length (c .before .before .before .before .before .before .before .before .before .before .before .before .before .before .before .before .before .before .before .before .args .words .now)) (needs-words _ _ (c .before .before .before .before .before .before .before .before .before .before .before .before .before .before .before .before .before .before .before .before .pre .2)) (c .before .before .before .before .before .before .before .before .before .before .before .before .if2 .left)) _ _ _ _ _ (c .before .before .before .before .before .before .counts .given .1) (c .before .before .before .before .before .before .before .before .before .before .decode-rows .ensures bs e) (c .before .before .before .store-bands .ensures) (c .with-codes .ensures (told bs) (c .before .before .before .before .before .before .before .before .before .before .before .before .before .before .before .before .before .before .before .before .pre .2))
+    decoded-shows _ bs e _ _ (subst (λ n. n ≤ length (c .before .before .before .before .before .before .before .before .before .before .before .before .before .before .before .before .before .before .before .before .args .pixels .now)) (ap (λ (l : Layout). l .width * l .height) (c .before .before .before .before .before .before .before .before .before .before .before .before .before .before .before .before .laid-out .ensures .2 (c .before .before .before .before .before .before .before .before .before .before .before .before .before .before .before .before .before .before .before .before .pre .0) (c .before .before .before .before .before .before .before .before .before .before .before .before .before .before .before .before .before .before .before .before .pre .1))) (c .before .before .before .before .before .before .before .before .before .before .before .before .before .before .if1 .left)) (subst (λ n. n ≤ length (c .before .before .before .before .before .before .before .before .before .before .before .before .before .before .before .before .before .before .before .before .args .words .now)) (needs-words _ _ (c .before .before .before .before .before .before .before .before .before .before .before .before .before .before .before .before .before .before .before .before .pre .2)) (c .before .before .before .before .before .before .before .before .before .before .before .before .if2 .left)) _ _ _ _ _ (c .before .before .before .before .before .before .counts .given .1) (c .before .before .before .before .before .before .before .before .before .before .decode-rows .ensures bs e) (c .before .before .before .store-bands .ensures) (c .with-counts .ensures (told bs) (c .before .before .before .before .before .before .before .before .before .before .before .before .before .before .before .before .before .before .before .before .pre .2))
 
 same-length-3 : tie.Need-same-length-3
 same-length-3 c = search needs
@@ -69,7 +69,7 @@ decode-told-spec =
     decode-rows-requires
     enum-known-counts
     store-bands-requires
-    with-codes-requires
+    with-counts-requires
     enum-known-number
     same-length
     same-length-2

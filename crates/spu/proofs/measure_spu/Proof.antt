@@ -18,8 +18,8 @@ measure-rows-requires c κs = told-by _ _ (sym (c .before .spu .given .1) ∙ c 
 enum-known-counts : tie.Need-enum-known-counts
 enum-known-counts c = search needs
 
-with-codes-requires : tie.Need-with-codes-requires
-with-codes-requires c κs = search needs
+with-counts-requires : tie.Need-with-counts-requires
+with-counts-requires c κs = search needs
 
 enum-known-number : tie.Need-enum-known-number
 enum-known-number c = search needs
@@ -30,7 +30,7 @@ enum-known-number-2 c = search needs
 returns : tie.Need-returns
 returns c =
     let k = told-by _ _ (sym (c .before .before .before .before .before .before .spu .given .1) ∙ c .before .before .before .before .before .before .before .before .parse-control .ensures) in
-    measures-claimed _ (measured-shows _ (k .0) (k .1) _ _ (sym (c .before .before .counts .given .1) ∙ c .before .before .before .before .measure-rows .ensures (k .0) (k .1)) (c .with-codes .ensures _ (k .2)))
+    measures-claimed _ (measured-shows _ (k .0) (k .1) _ _ (sym (c .before .before .counts .given .1) ∙ c .before .before .before .before .measure-rows .ensures (k .0) (k .1)) (c .with-counts .ensures _ (k .2)))
 
 returns-2 : tie.Need-returns-2
 returns-2 c =
@@ -48,7 +48,7 @@ measure-spu-spec =
     enum-known-spu
     measure-rows-requires
     enum-known-counts
-    with-codes-requires
+    with-counts-requires
     enum-known-number
     enum-known-number-2
     returns
