@@ -1,5 +1,8 @@
 /* The functions of libvobsub_c.a, for C. Each returns 0 where it accepts, and otherwise the number of a refusal: the numbers, what each
-   means and the order in which they are tried are in docs/FORMAT.md, section 9 (`refusals` in crates/outcome). */
+   means and the order in which they are tried are in docs/FORMAT.md, section 9 (`refusals` in crates/outcome).
+
+   A pointer that has a length beside it may be null where that length is 0. Where it is said how much stack a function takes, a thread whose
+   stack is sized to that figure needs 5 KiB more, for what the C library keeps there: 4,464 bytes with glibc 2.36 (bench/stack/run). */
 #ifndef VOBSUB_H
 #define VOBSUB_H
 

@@ -6,10 +6,40 @@ ghost use Rattle.io.specs.Counts.{Counts};
 
 // What was read of a file.
 struct Bytes {
-    // Whether it is there, and could be read.
+    // Whether it was opened and no read of it failed.
     there: bool,
     // How many of its bytes are in the front of the buffer.
     size: usize,
+}
+
+// What one read gives.
+fn read_some(fd: i32, buffer: &mut [u8]) -> Bytes
+    ensures { λ r. ⌜ Counts (r .size) (now (buffer .exit)) ⌝ }
+{
+    let got = libc::read(fd, buffer);
+    let size = io::count(got, buffer);
+    Bytes {
+        there: got >= 0,
+        size,
+    }
+}
+
+// Reads on until the buffer is full or the file ends. A read that fails, the first or a later one, is no end of the file.
+fn read_all(fd: i32, buffer: &mut [u8]) -> Bytes
+    ensures { λ r. ⌜ Counts (r .size) (now (buffer .exit)) ⌝ }
+{
+    let mut size = 0;
+    while size < buffer.len() {
+        let more = read_some(fd, &mut buffer[size..]);
+        if !more.there {
+            return Bytes { there: false, size };
+        }
+        if more.size == 0 {
+            return Bytes { there: true, size };
+        }
+        size += more.size;
+    }
+    Bytes { there: true, size }
 }
 
 // As many bytes of a file as the buffer holds. One longer than the longest file that is listed, it tells a file that is too long.
@@ -23,11 +53,9 @@ fn read_file(path: &[u8], buffer: &mut [u8]) -> Bytes
             size: 0,
         };
     }
-    // a folder opens too, and then no read of it succeeds
-    let there = libc::read(fd, &mut buffer[..0]) >= 0;
-    let size = io::read_full(fd, buffer);
+    let read = read_all(fd, buffer);
     libc::close(fd);
-    Bytes { there, size }
+    read
 }
 
 // A line for each cue. A unit has at most 65,535 bytes, and a line at most 210.

@@ -79,6 +79,6 @@ index-refused = 105 ∷ 110 ∷ 100 ∷ 101 ∷ 120 ∷ 32 ∷ refused-word
 unfoldable pub indexLine : ℕ → List ℕ
 indexLine k = index-refused ++ (field (decimal k) ++ newline)
 
--- `file refused`, the one line of a title of which a file is missing or too long
+-- `file refused`, the one line of a title of which a file is missing, unreadable or too long
 unfoldable pub fileLine : List ℕ
 fileLine = 102 ∷ 105 ∷ 108 ∷ 101 ∷ 32 ∷ (refused-word ++ newline)
