@@ -32,7 +32,9 @@ add-fill-commands : tie.Need-add-fill-commands Inv-loop μ-loop
 add-fill-commands c = search needs
 
 fill-commands-requires : tie.Need-fill-commands-requires Inv-loop μ-loop
-fill-commands-requires c κs = (c .before .before .before .before .before .before .pre .0, chain-has _ _ _ _ (c .before .before .before .before .before .before .pre .0) _ _ _ (c .before .before .before .loop .inv) (c .before .before .loop-test .taken) (c .before .before .before .before .before .before .pre .3 .0) (c .before .before .before .before .before .before .pre .3 .1) (c .before .before .before .before .before .before .pre .3 .2))
+fill-commands-requires c κs =
+    let s = c .before .before .before .before .before .before in
+    (s .pre .0, chain-has _ _ _ _ (s .pre .0) _ _ _ (c .before .before .before .loop .inv) (c .before .before .loop-test .taken) (s .pre .3 .0) (s .pre .3 .1) (s .pre .3 .2))
 
 same-length : tie.Need-same-length Inv-loop μ-loop
 same-length c = c .before .before .before .fill-commands .kept .1 .1 .1 .0 ∙ c .before .before .before .before .before .before .before .loop .inv .long

@@ -39,13 +39,17 @@ part-store-words-end c =
     let d = change-is _ _ _ (c .before .before .before .pre .1 .0) (c .before .before .before .pre .0) (c .before .before .before .pre .1 .1) in omega (arith, c .word-at .ensures, d .head, d .small, d .fits)
 
 store-words-requires : tie.Need-store-words-requires
-store-words-requires c κs = change-known _ _ _ _ (change-is _ _ _ (c .before .before .before .before .before .pre .1 .0) (c .before .before .before .before .before .pre .0) (c .before .before .before .before .before .pre .1 .1)) _ (part-slice (c .before .before .before .before .before .args .p + 2) _ (c .before .before .before .before .before .args .unit .now) ∙ ap (λ z. slice (c .before .before .before .before .before .args .p + 2) (c .before .before .before .before .before .args .p + z) (c .before .before .before .before .before .args .unit .now)) (c .before .before .word-at .ensures)) _ (c .before .before .before .before .before .args .words .now) (c .before .before .before .before .before .pre .1 .2)
+store-words-requires c κs =
+    let s = c .before .before .before .before .before in
+    change-known _ _ _ _ (change-is _ _ _ (s .pre .1 .0) (s .pre .0) (s .pre .1 .1)) _ (part-slice (s .args .p + 2) _ (s .args .unit .now) ∙ ap (λ z. slice (s .args .p + 2) (s .args .p + z) (s .args .unit .now)) (c .before .before .word-at .ensures)) _ (s .args .words .now) (s .pre .1 .2)
 
 enum-known-n : tie.Need-enum-known-n
 enum-known-n c = search needs
 
 add-t19 : tie.Need-add-t19
-add-t19 c = omega (arith, change-count _ _ _ _ (change-is _ _ _ (c .before .before .before .before .before .before .before .before .before .before .before .pre .1 .0) (c .before .before .before .before .before .before .before .before .before .before .before .pre .0) (c .before .before .before .before .before .before .before .before .before .before .before .pre .1 .1)) _ (part-slice (c .before .before .before .before .before .before .before .before .before .before .before .args .p + 2) _ (c .before .before .before .before .before .before .before .before .before .before .before .args .unit .now) ∙ ap (λ z. slice (c .before .before .before .before .before .before .before .before .before .before .before .args .p + 2) (c .before .before .before .before .before .before .before .before .before .before .before .args .p + z) (c .before .before .before .before .before .before .before .before .before .before .before .args .unit .now)) (c .before .before .before .before .before .before .before .before .word-at .ensures)) _ _ (c .before .before .before .before .before .before .before .before .before .before .before .pre .1 .2) _ _ _ (c .before .before .before .before .before .store-words .ensures) (c .before .n .given .1), c .before .before .before .before .before .before .before .before .before .before .before .pre .1 .2)
+add-t19 c =
+    let s = c .before .before .before .before .before .before .before .before .before .before .before in
+    omega (arith, change-count _ _ _ _ (change-is _ _ _ (s .pre .1 .0) (s .pre .0) (s .pre .1 .1)) _ (part-slice (s .args .p + 2) _ (s .args .unit .now) ∙ ap (λ z. slice (s .args .p + 2) (s .args .p + z) (s .args .unit .now)) (c .before .before .before .before .before .before .before .before .word-at .ensures)) _ _ (s .pre .1 .2) _ _ _ (c .before .before .before .before .before .store-words .ensures) (c .before .n .given .1), s .pre .1 .2)
 
 enum-told : tie.Need-enum-told
 enum-told c = search needs
@@ -63,7 +67,9 @@ same-length-2 : tie.Need-same-length-2
 same-length-2 c = search needs
 
 returns-2 : tie.Need-returns-2
-returns-2 c = λ o e. absurd (change-kept _ _ _ _ (change-is _ _ _ (c .before .before .before .before .before .before .before .before .before .before .pre .1 .0) (c .before .before .before .before .before .before .before .before .before .before .pre .0) (c .before .before .before .before .before .before .before .before .before .before .pre .1 .1)) _ (part-slice (c .before .before .before .before .before .before .before .before .before .before .args .p + 2) _ (c .before .before .before .before .before .before .before .before .before .before .args .unit .now) ∙ ap (λ z. slice (c .before .before .before .before .before .before .before .before .before .before .args .p + 2) (c .before .before .before .before .before .before .before .before .before .before .args .p + z) (c .before .before .before .before .before .before .before .before .before .before .args .unit .now)) (c .before .before .before .before .before .before .before .word-at .ensures)) _ _ (c .before .before .before .before .before .before .before .before .before .before .pre .1 .2) _ _ _ (c .before .before .before .before .store-words .ensures) (c .enum-told .given .1))
+returns-2 c =
+    let s = c .before .before .before .before .before .before .before .before .before .before in
+    λ o e. absurd (change-kept _ _ _ _ (change-is _ _ _ (s .pre .1 .0) (s .pre .0) (s .pre .1 .1)) _ (part-slice (s .args .p + 2) _ (s .args .unit .now) ∙ ap (λ z. slice (s .args .p + 2) (s .args .p + z) (s .args .unit .now)) (c .before .before .before .before .before .before .before .word-at .ensures)) _ _ (s .pre .1 .2) _ _ _ (c .before .before .before .before .store-words .ensures) (c .enum-told .given .1))
 
 pub fill-change-spec : {M : Type 1} → statement M
 fill-change-spec =

@@ -16,7 +16,9 @@ add-p : tie.Need-add-p
 add-p c = search needs
 
 fill-change-requires : tie.Need-fill-change-requires
-fill-change-requires c κs = (c .before .before .before .before .before .pre .1, (c .before .before .before .before .before .pre .2 .0, order-changes _ _ _ _ _ (c .before .if1 .taken) (c .before .before .before .before .before .pre .2 .1), c .before .before .before .before .before .pre .2 .2))
+fill-change-requires c κs =
+    let s = c .before .before .before .before .before in
+    (s .pre .1, (s .pre .2 .0, order-changes _ _ _ _ _ (c .before .if1 .taken) (s .pre .2 .1), s .pre .2 .2))
 
 same-length : tie.Need-same-length
 same-length c = search needs

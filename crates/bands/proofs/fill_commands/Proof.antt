@@ -25,10 +25,15 @@ returns : tie.Need-returns Inv-loop μ-loop
 returns c = filling-ends _ _ _ _ _ (c .before .before .before .before .before .before .pre .0) _ _ _ (c .before .before .before .loop .inv) (λ l. c .if1 .taken)
 
 fill-command-requires : tie.Need-fill-command-requires Inv-loop μ-loop
-fill-command-requires c κs = (c .before .before .before .loop-test .taken, c .before .before .before .before .before .before .before .pre .0, filling-has _ _ _ _ _ (c .before .before .before .before .before .before .before .pre .0) _ _ _ (c .before .before .before .before .loop .inv) (c .before .before .before .loop-test .taken) (c .before .if1 .left) (c .before .before .before .before .before .before .before .pre .1 .0) (c .before .before .before .before .before .before .before .pre .1 .1) (c .before .before .before .before .before .before .before .pre .1 .2))
+fill-command-requires c κs =
+    let s = c .before .before .before .before .before .before .before in
+    (c .before .before .before .loop-test .taken, s .pre .0, filling-has _ _ _ _ _ (s .pre .0) _ _ _ (c .before .before .before .before .loop .inv) (c .before .before .before .loop-test .taken) (c .before .if1 .left) (s .pre .1 .0) (s .pre .1 .1) (s .pre .1 .2))
 
 loop-less : tie.Need-loop-less Inv-loop μ-loop
-loop-less c = omega (arith, filling-falls _ _ _ _ _ (c .before .before .before .before .before .before .before .before .before .before .pre .0) _ _ _ (c .before .before .before .before .before .before .before .loop .inv) (c .before .before .before .before .before .before .loop-test .taken) (c .before .before .before .before .if1 .left) _ _ (c .before .before .fill-command .ensures) .0, filling-falls _ _ _ _ _ (c .before .before .before .before .before .before .before .before .before .before .pre .0) _ _ _ (c .before .before .before .before .before .before .before .loop .inv) (c .before .before .before .before .before .before .loop-test .taken) (c .before .before .before .before .if1 .left) _ _ (c .before .before .fill-command .ensures) .1)
+loop-less c =
+    let s = c .before .before .before .before .before .before .before .before .before .before in
+    let t = c .before .before .before .before .before .before .before in
+    omega (arith, filling-falls _ _ _ _ _ (s .pre .0) _ _ _ (t .loop .inv) (c .before .before .before .before .before .before .loop-test .taken) (c .before .before .before .before .if1 .left) _ _ (c .before .before .fill-command .ensures) .0, filling-falls _ _ _ _ _ (s .pre .0) _ _ _ (t .loop .inv) (c .before .before .before .before .before .before .loop-test .taken) (c .before .before .before .before .if1 .left) _ _ (c .before .before .fill-command .ensures) .1)
 
 loop-again : tie.Need-loop-again Inv-loop μ-loop
 loop-again c = filling-goes _ _ _ _ _ (c .before .before .before .before .before .before .before .before .before .before .pre .0) _ _ _ (c .before .before .before .before .before .before .before .loop .inv) (c .before .before .before .before .before .before .loop-test .taken) (c .before .before .before .before .if1 .left) _ _ (c .before .before .fill-command .ensures)

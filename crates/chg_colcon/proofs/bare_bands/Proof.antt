@@ -60,16 +60,24 @@ returns-3 : tie.Need-returns-3 Inv-loop μ-loop
 returns-3 c = c .before .before .before .before .before .before .loop .inv
 
 put3-requires : tie.Need-put3-requires Inv-loop μ-loop
-put3-requires c κs = omega (arith, bare-room (c .before .before .before .before .before .before .before .before .before .before .args .p .now) 0 [] (c .before .before .before .before .before .before .before .loop .i) _ _ _ (sym (c .before .before .before .before .before .read-head .ensures) ∙ c .before .before .before .first .given .1) (c .before .before .before .before .before .before .before .loop .inv .there), c .before .before .before .before .before .before .before .loop .inv .room)
+put3-requires c κs =
+    let s = c .before .before .before .before .before .before .before in
+    omega (arith, bare-room (c .before .before .before .before .before .before .before .before .before .before .args .p .now) 0 [] (s .loop .i) _ _ _ (sym (c .before .before .before .before .before .read-head .ensures) ∙ c .before .before .before .first .given .1) (s .loop .inv .there), s .loop .inv .room)
 
 add-i : tie.Need-add-i Inv-loop μ-loop
-add-i c = omega (arith, bare-room (c .before .before .before .before .before .before .before .before .before .before .before .before .before .args .p .now) 0 [] (c .before .before .before .before .before .before .before .before .before .before .loop .i) _ _ _ (sym (c .before .before .before .before .before .before .before .before .read-head .ensures) ∙ c .before .before .before .before .before .before .first .given .1) (c .before .before .before .before .before .before .before .before .before .before .loop .inv .there))
+add-i c =
+    let s = c .before .before .before .before .before .before .before .before .before .before in
+    omega (arith, bare-room (c .before .before .before .before .before .before .before .before .before .before .before .before .before .args .p .now) 0 [] (s .loop .i) _ _ _ (sym (c .before .before .before .before .before .before .before .before .read-head .ensures) ∙ c .before .before .before .before .before .before .first .given .1) (s .loop .inv .there))
 
 add-at : tie.Need-add-at Inv-loop μ-loop
-add-at c = omega (arith, bare-room (c .before .before .before .before .before .before .before .before .before .before .before .before .before .args .p .now) 0 [] (c .before .before .before .before .before .before .before .before .before .before .loop .i) _ _ _ (sym (c .before .before .before .before .before .before .before .before .read-head .ensures) ∙ c .before .before .before .before .before .before .first .given .1) (c .before .before .before .before .before .before .before .before .before .before .loop .inv .there), c .before .before .before .before .before .before .before .before .before .before .loop .inv .room)
+add-at c =
+    let s = c .before .before .before .before .before .before .before .before .before .before in
+    omega (arith, bare-room (c .before .before .before .before .before .before .before .before .before .before .before .before .before .args .p .now) 0 [] (s .loop .i) _ _ _ (sym (c .before .before .before .before .before .before .before .before .read-head .ensures) ∙ c .before .before .before .before .before .before .first .given .1) (s .loop .inv .there), s .loop .inv .room)
 
 loop-less : tie.Need-loop-less Inv-loop μ-loop
-loop-less c = omega (arith, bare-room (c .before .before .before .before .before .before .before .before .before .before .before .before .before .args .p .now) 0 [] (c .before .before .before .before .before .before .before .before .before .before .loop .i) _ _ _ (sym (c .before .before .before .before .before .before .before .before .read-head .ensures) ∙ c .before .before .before .before .before .before .first .given .1) (c .before .before .before .before .before .before .before .before .before .before .loop .inv .there))
+loop-less c =
+    let s = c .before .before .before .before .before .before .before .before .before .before in
+    omega (arith, bare-room (c .before .before .before .before .before .before .before .before .before .before .before .before .before .args .p .now) 0 [] (s .loop .i) _ _ _ (sym (c .before .before .before .before .before .before .before .before .read-head .ensures) ∙ c .before .before .before .before .before .before .first .given .1) (s .loop .inv .there))
 
 loop-again : tie.Need-loop-again Inv-loop μ-loop
 loop-again c = bare-step _ _ _ _ _ _ _ _ _ _ (sym (c .before .before .before .before .before .before .before .before .read-head .ensures) ∙ c .before .before .before .before .before .before .first .given .1) (let h = c .before .before .before .before .if1 .left in omega arith) (c .before .before .put3 .ensures) (c .before .before .before .before .before .before .before .before .before .before .loop .inv)

@@ -47,7 +47,9 @@ same-length-2 : tie.Need-same-length-2
 same-length-2 c = search needs
 
 returns-2 : tie.Need-returns-2
-returns-2 c = goes-same _ _ _ _ _ _ _ _ (rest-entries _ _ _ (c .before .before .before .before .before .before .before .before .before .if1 .left)) (goes-after _ _ _ _ (λ (t : List ℕ). entriesOf t (c .before .before .before .before .before .before .before .inner-entries .result .left) (c .before .before .before .before .before .before .before .inner-entries .result .lo)) _ _ _ _ _ _ (c .before .before .before .before .before .before .before .inner-entries .ensures .1) (c .before .before .entries-from .ensures))
+returns-2 c =
+    let s = c .before .before .before .before .before .before .before in
+    goes-same _ _ _ _ _ _ _ _ (rest-entries _ _ _ (c .before .before .before .before .before .before .before .before .before .if1 .left)) (goes-after _ _ _ _ (λ (t : List ℕ). entriesOf t (s .inner-entries .result .left) (s .inner-entries .result .lo)) _ _ _ _ _ _ (s .inner-entries .ensures .1) (c .before .before .entries-from .ensures))
 
 pub go-on-spec : {M : Type 1} → statement M
 go-on-spec =

@@ -45,13 +45,19 @@ enum-known-col : tie.Need-enum-known-col Inv-loop μ-loop
 enum-known-col c = search needs
 
 put3-requires : tie.Need-put3-requires Inv-loop μ-loop
-put3-requires c κs = omega (arith, inner-room (c .before .before .before .before .before .before .before .before .before .before .args .p .now) 0 [] (c .before .before .before .before .before .before .before .loop .i) _ _ _ _ (sym (c .before .before .before .before .read-entry .ensures) ∙ c .before .before .col .given .1) (c .before .before .before .before .before .before .before .loop .inv .1 .there), c .before .before .before .before .before .before .before .loop .inv .1 .room)
+put3-requires c κs =
+    let s = c .before .before .before .before .before .before .before in
+    omega (arith, inner-room (c .before .before .before .before .before .before .before .before .before .before .args .p .now) 0 [] (s .loop .i) _ _ _ _ (sym (c .before .before .before .before .read-entry .ensures) ∙ c .before .before .col .given .1) (s .loop .inv .1 .there), s .loop .inv .1 .room)
 
 add-i : tie.Need-add-i Inv-loop μ-loop
-add-i c = omega (arith, inner-room (c .before .before .before .before .before .before .before .before .before .before .before .before .before .args .p .now) 0 [] (c .before .before .before .before .before .before .before .before .before .before .loop .i) _ _ _ _ (sym (c .before .before .before .before .before .before .before .read-entry .ensures) ∙ c .before .before .before .before .before .col .given .1) (c .before .before .before .before .before .before .before .before .before .before .loop .inv .1 .there))
+add-i c =
+    let s = c .before .before .before .before .before .before .before .before .before .before in
+    omega (arith, inner-room (c .before .before .before .before .before .before .before .before .before .before .before .before .before .args .p .now) 0 [] (s .loop .i) _ _ _ _ (sym (c .before .before .before .before .before .before .before .read-entry .ensures) ∙ c .before .before .before .before .before .col .given .1) (s .loop .inv .1 .there))
 
 add-at : tie.Need-add-at Inv-loop μ-loop
-add-at c = omega (arith, inner-room (c .before .before .before .before .before .before .before .before .before .before .before .before .before .args .p .now) 0 [] (c .before .before .before .before .before .before .before .before .before .before .loop .i) _ _ _ _ (sym (c .before .before .before .before .before .before .before .read-entry .ensures) ∙ c .before .before .before .before .before .col .given .1) (c .before .before .before .before .before .before .before .before .before .before .loop .inv .1 .there), c .before .before .before .before .before .before .before .before .before .before .loop .inv .1 .room)
+add-at c =
+    let s = c .before .before .before .before .before .before .before .before .before .before in
+    omega (arith, inner-room (c .before .before .before .before .before .before .before .before .before .before .before .before .before .args .p .now) 0 [] (s .loop .i) _ _ _ _ (sym (c .before .before .before .before .before .before .before .read-entry .ensures) ∙ c .before .before .before .before .before .col .given .1) (s .loop .inv .1 .there), s .loop .inv .1 .room)
 
 sub-left : tie.Need-sub-left Inv-loop μ-loop
 sub-left c = search needs
@@ -66,7 +72,9 @@ loop-less : tie.Need-loop-less Inv-loop μ-loop
 loop-less c = omega arith
 
 loop-again : tie.Need-loop-again Inv-loop μ-loop
-loop-again c = (let h = c .before .before .before .before .before .before .before .before .before .loop-test .taken in omega arith, inner-step _ _ _ _ _ _ _ _ _ _ _ _ _ _ (sym (c .before .before .before .before .before .before .before .read-entry .ensures) ∙ c .before .before .before .before .before .col .given .1) (c .before .before .before .before .before .before .before .before .before .loop-test .taken) (c .before .before .put3 .ensures) (c .before .before .before .before .before .before .before .before .before .before .loop .inv .1))
+loop-again c =
+    let s = c .before .before .before .before .before .before .before .before .before in
+    (let h = s .loop-test .taken in omega arith, inner-step _ _ _ _ _ _ _ _ _ _ _ _ _ _ (sym (c .before .before .before .before .before .before .before .read-entry .ensures) ∙ c .before .before .before .before .before .col .given .1) (s .loop-test .taken) (c .before .before .put3 .ensures) (c .before .before .before .before .before .before .before .before .before .before .loop .inv .1))
 
 same-length-2 : tie.Need-same-length-2 Inv-loop μ-loop
 same-length-2 c = ahead-long _ _ _ _ _ _ _ _ (c .before .loop .inv .1)

@@ -11,7 +11,9 @@ same-length : tie.Need-same-length
 same-length c = search needs
 
 returns : tie.Need-returns
-returns c = stored-known _ _ _ _ _ (c .before .before .before .before .before .before .pre .0) (c .before .before .before .before .before .before .pre .1) (c .before .before .read-list .ensures)
+returns c =
+    let s = c .before .before .before .before .before .before in
+    stored-known _ _ _ _ _ (s .pre .0) (s .pre .1) (c .before .before .read-list .ensures)
 
 pub store-words-spec : {M : Type 1} → statement M
 store-words-spec = tie.close (tie.spec read-list-requires same-length returns)

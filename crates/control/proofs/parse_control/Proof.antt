@@ -41,19 +41,31 @@ enum-known-spu : tie.Need-enum-known-spu
 enum-known-spu c = search needs
 
 returns-5 : tie.Need-returns-5
-returns-5 c = unit-narrow (c .before .before .before .before .before .before .before .before .before .before .before .before .before .args .unit .now) (omega arith) (omega (arith, c .before .before .before .before .before .before .before .before .before .word-at2 .ensures)) (omega (arith, c .before .before .before .before .before .before .before .before .before .before .word-at .ensures, c .before .before .before .before .before .before .before .before .before .word-at2 .ensures)) (omega (arith, c .before .before .before .before .before .before .before .before .before .before .word-at .ensures)) _ (sym (c .before .before .before .spu .given .1) ∙ c .before .before .before .before .before .read-chain .ensures ∙ (λ j. chainAnswer untold (blocksAt (c .before .before .before .before .before .before .before .before .before .before .before .before .before .args .unit .now) (c .before .before .before .before .before .before .before .before .before .before .word-at .ensures j) (some (c .before .before .before .before .before .before .before .before .before .word-at2 .ensures j))))) (c .if5 .taken)
+returns-5 c =
+    let s = c .before .before .before .before .before .before .before .before .before .before in
+    let t = c .before .before .before .before .before .before .before .before .before in
+    unit-narrow (c .before .before .before .before .before .before .before .before .before .before .before .before .before .args .unit .now) (omega arith) (omega (arith, t .word-at2 .ensures)) (omega (arith, s .word-at .ensures, t .word-at2 .ensures)) (omega (arith, s .word-at .ensures)) _ (sym (c .before .before .before .spu .given .1) ∙ c .before .before .before .before .before .read-chain .ensures ∙ (λ j. chainAnswer untold (blocksAt (c .before .before .before .before .before .before .before .before .before .before .before .before .before .args .unit .now) (s .word-at .ensures j) (some (t .word-at2 .ensures j))))) (c .if5 .taken)
 
 returns-6 : tie.Need-returns-6
-returns-6 c = unit-low (c .before .before .before .before .before .before .before .before .before .before .before .before .before .before .before .args .unit .now) (omega arith) (omega (arith, c .before .before .before .before .before .before .before .before .before .before .before .word-at2 .ensures)) (omega (arith, c .before .before .before .before .before .before .before .before .before .before .before .before .word-at .ensures, c .before .before .before .before .before .before .before .before .before .before .before .word-at2 .ensures)) (omega (arith, c .before .before .before .before .before .before .before .before .before .before .before .before .word-at .ensures)) _ (sym (c .before .before .before .before .before .spu .given .1) ∙ c .before .before .before .before .before .before .before .read-chain .ensures ∙ (λ j. chainAnswer untold (blocksAt (c .before .before .before .before .before .before .before .before .before .before .before .before .before .before .before .args .unit .now) (c .before .before .before .before .before .before .before .before .before .before .before .before .word-at .ensures j) (some (c .before .before .before .before .before .before .before .before .before .before .before .word-at2 .ensures j))))) (c .before .before .if5 .left) (c .if6 .taken)
+returns-6 c =
+    let s = c .before .before .before .before .before .before .before .before .before .before .before .before in
+    let t = c .before .before .before .before .before .before .before .before .before .before .before in
+    unit-low (c .before .before .before .before .before .before .before .before .before .before .before .before .before .before .before .args .unit .now) (omega arith) (omega (arith, t .word-at2 .ensures)) (omega (arith, s .word-at .ensures, t .word-at2 .ensures)) (omega (arith, s .word-at .ensures)) _ (sym (c .before .before .before .before .before .spu .given .1) ∙ c .before .before .before .before .before .before .before .read-chain .ensures ∙ (λ j. chainAnswer untold (blocksAt (c .before .before .before .before .before .before .before .before .before .before .before .before .before .before .before .args .unit .now) (s .word-at .ensures j) (some (t .word-at2 .ensures j))))) (c .before .before .if5 .left) (c .if6 .taken)
 
 enum-known-number : tie.Need-enum-known-number
 enum-known-number c = search needs
 
 returns-7 : tie.Need-returns-7
-returns-7 c = unit-told (c .before .before .before .before .before .before .before .before .before .before .before .before .before .before .before .args .unit .now) (omega arith) (omega (arith, c .before .before .before .before .before .before .before .before .before .before .before .word-at2 .ensures)) (omega (arith, c .before .before .before .before .before .before .before .before .before .before .before .before .word-at .ensures, c .before .before .before .before .before .before .before .before .before .before .before .word-at2 .ensures)) (omega (arith, c .before .before .before .before .before .before .before .before .before .before .before .before .word-at .ensures)) _ (sym (c .before .before .before .before .before .spu .given .1) ∙ c .before .before .before .before .before .before .before .read-chain .ensures ∙ (λ j. chainAnswer untold (blocksAt (c .before .before .before .before .before .before .before .before .before .before .before .before .before .before .before .args .unit .now) (c .before .before .before .before .before .before .before .before .before .before .before .before .word-at .ensures j) (some (c .before .before .before .before .before .before .before .before .before .before .before .word-at2 .ensures j))))) (c .before .before .if5 .left) (c .if6 .left)
+returns-7 c =
+    let s = c .before .before .before .before .before .before .before .before .before .before .before .before in
+    let t = c .before .before .before .before .before .before .before .before .before .before .before in
+    unit-told (c .before .before .before .before .before .before .before .before .before .before .before .before .before .before .before .args .unit .now) (omega arith) (omega (arith, t .word-at2 .ensures)) (omega (arith, s .word-at .ensures, t .word-at2 .ensures)) (omega (arith, s .word-at .ensures)) _ (sym (c .before .before .before .before .before .spu .given .1) ∙ c .before .before .before .before .before .before .before .read-chain .ensures ∙ (λ j. chainAnswer untold (blocksAt (c .before .before .before .before .before .before .before .before .before .before .before .before .before .before .before .args .unit .now) (s .word-at .ensures j) (some (t .word-at2 .ensures j))))) (c .before .before .if5 .left) (c .if6 .left)
 
 returns-8 : tie.Need-returns-8
-returns-8 c = unit-refused (c .before .before .before .before .before .before .before .before .before .before .before .args .unit .now) (omega arith) (omega (arith, c .before .before .before .before .before .before .before .word-at2 .ensures)) (omega (arith, c .before .before .before .before .before .before .before .before .word-at .ensures, c .before .before .before .before .before .before .before .word-at2 .ensures)) (omega (arith, c .before .before .before .before .before .before .before .before .word-at .ensures)) _ (sym (c .before .number .given .1) ∙ c .before .before .before .read-chain .ensures ∙ (λ j. chainAnswer untold (blocksAt (c .before .before .before .before .before .before .before .before .before .before .before .args .unit .now) (c .before .before .before .before .before .before .before .before .word-at .ensures j) (some (c .before .before .before .before .before .before .before .word-at2 .ensures j)))))
+returns-8 c =
+    let s = c .before .before .before .before .before .before .before .before in
+    let t = c .before .before .before .before .before .before .before .before .before .before .before in
+    unit-refused (t .args .unit .now) (omega arith) (omega (arith, c .before .before .before .before .before .before .before .word-at2 .ensures)) (omega (arith, s .word-at .ensures, c .before .before .before .before .before .before .before .word-at2 .ensures)) (omega (arith, s .word-at .ensures)) _ (sym (c .before .number .given .1) ∙ c .before .before .before .read-chain .ensures ∙ (λ j. chainAnswer untold (blocksAt (t .args .unit .now) (s .word-at .ensures j) (some (c .before .before .before .before .before .before .before .word-at2 .ensures j)))))
 
 pub parse-control-spec : {M : Type 1} → statement M
 parse-control-spec =

@@ -51,7 +51,9 @@ loop-less : tie.Need-loop-less Inv-loop μ-loop
 loop-less c = omega (arith, c .before .before .before .before .before .before .before .before .loop .inv .below)
 
 loop-again : tie.Need-loop-again Inv-loop μ-loop
-loop-again c = chaining-goes _ _ _ (c .before .before .before .before .before .before .before .before .before .before .pre .0) _ _ (c .before .before .before .before .before .before .before .before .loop .inv) (c .before .before .before .before .before .before .before .loop-test .taken) _ _ (c .before .before .before .before .before .before .word-at .ensures) (c .before .before .before .before .before .word-at2 .ensures) _ (λ t e. sym (c .before .before .after .given .1) ∙ c .before .before .before .before .read-commands .ensures t e) (omega arith) (c .before .before .before .before .before .before .before .before .before .before .pre .1) (omega arith)
+loop-again c =
+    let s = c .before .before .before .before .before .before .before .before .before .before in
+    chaining-goes _ _ _ (s .pre .0) _ _ (c .before .before .before .before .before .before .before .before .loop .inv) (c .before .before .before .before .before .before .before .loop-test .taken) _ _ (c .before .before .before .before .before .before .word-at .ensures) (c .before .before .before .before .before .word-at2 .ensures) _ (λ t e. sym (c .before .before .after .given .1) ∙ c .before .before .before .before .read-commands .ensures t e) (omega arith) (s .pre .1) (omega arith)
 
 enum-known-number : tie.Need-enum-known-number Inv-loop μ-loop
 enum-known-number c = search needs

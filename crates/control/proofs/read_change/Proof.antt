@@ -21,13 +21,17 @@ cast-size : tie.Need-cast-size
 cast-size c = search needs
 
 returns-2 : tie.Need-returns-2
-returns-2 c = λ t d e. change-small (c .before .before .before .before .args .unit .now) (c .before .before .before .before .args .end) (c .before .before .before .before .args .p) _ (c .before .word-at .ensures) d t (omega arith) (c .if2 .taken)
+returns-2 c =
+    let s = c .before .before .before .before in
+    λ t d e. change-small (s .args .unit .now) (s .args .end) (s .args .p) _ (c .before .word-at .ensures) d t (omega arith) (c .if2 .taken)
 
 sub-if3 : tie.Need-sub-if3
 sub-if3 c = search needs
 
 returns-3 : tie.Need-returns-3
-returns-3 c = λ t d e. change-past (c .before .before .before .before .before .args .unit .now) (c .before .before .before .before .before .args .end) (c .before .before .before .before .before .args .p) _ (c .before .before .word-at .ensures) d t (omega arith) (c .before .if2 .left) (omega arith)
+returns-3 c =
+    let s = c .before .before .before .before .before in
+    λ t d e. change-past (s .args .unit .now) (s .args .end) (s .args .p) _ (c .before .before .word-at .ensures) d t (omega arith) (c .before .if2 .left) (omega arith)
 
 add-next : tie.Need-add-next
 add-next c = search needs
@@ -51,7 +55,9 @@ enum-known-n : tie.Need-enum-known-n
 enum-known-n c = search needs
 
 with-bands-requires : tie.Need-with-bands-requires
-with-bands-requires c κs = omega (arith, change-bands (c .before .before .before .before .before .before .before .before .before .before .args .unit .now) (c .before .before .before .before .before .before .before .before .before .before .args .end) (c .before .before .before .before .before .before .before .before .before .before .args .p) _ (c .before .before .before .before .before .before .before .word-at .ensures) (omega arith) (c .before .before .before .before .before .before .if2 .left) (omega arith) _ _ (c .before .before .before .before .before .before .before .before .before .before .pre .1) (part-slice (c .before .before .before .before .before .before .before .before .before .before .args .p + 2) _ (c .before .before .before .before .before .before .before .before .before .before .args .unit .now)) (sym (c .before .n .given .1) ∙ c .before .before .before .count-words .ensures) .few)
+with-bands-requires c κs =
+    let s = c .before .before .before .before .before .before .before .before .before .before in
+    omega (arith, change-bands (s .args .unit .now) (s .args .end) (s .args .p) _ (c .before .before .before .before .before .before .before .word-at .ensures) (omega arith) (c .before .before .before .before .before .before .if2 .left) (omega arith) _ _ (s .pre .1) (part-slice (s .args .p + 2) _ (s .args .unit .now)) (sym (c .before .n .given .1) ∙ c .before .before .before .count-words .ensures) .few)
 
 enum-known-number : tie.Need-enum-known-number
 enum-known-number c = search needs
@@ -63,7 +69,9 @@ returns-4 c =
     change-told _ _ _ _ _ d t _ b (c .with-bands .ensures t d (c .before .before .before .before .before .before .before .before .word-at .result) (b .bs) (b .count) e)
 
 returns-5 : tie.Need-returns-5
-returns-5 c = λ t d e. change-none (c .before .before .before .before .before .before .before .before .before .before .args .unit .now) (c .before .before .before .before .before .before .before .before .before .before .args .end) (c .before .before .before .before .before .before .before .before .before .before .args .p) _ (c .before .before .before .before .before .before .before .word-at .ensures) (omega arith) (c .before .before .before .before .before .before .if2 .left) (omega arith) _ _ d t (part-slice (c .before .before .before .before .before .before .before .before .before .before .args .p + 2) _ (c .before .before .before .before .before .before .before .before .before .before .args .unit .now)) (sym (c .before .number .given .1) ∙ c .before .before .before .count-words .ensures)
+returns-5 c =
+    let s = c .before .before .before .before .before .before .before .before .before .before in
+    λ t d e. change-none (s .args .unit .now) (s .args .end) (s .args .p) _ (c .before .before .before .before .before .before .before .word-at .ensures) (omega arith) (c .before .before .before .before .before .before .if2 .left) (omega arith) _ _ d t (part-slice (s .args .p + 2) _ (s .args .unit .now)) (sym (c .before .number .given .1) ∙ c .before .before .before .count-words .ensures)
 
 pub read-change-spec : {M : Type 1} → statement M
 read-change-spec =

@@ -18,7 +18,9 @@ read-change-requires : tie.Need-read-change-requires
 read-change-requires c κs = search needs
 
 returns : tie.Need-returns
-returns c = λ t e. c .read-change .ensures t (c .before .before .before .before .args .delay) e ∙ ap (orderAnswer (c .before .before .before .before .args .delay) _ t) (order-change _ _ _ _ (c .before .before .before .before .args .delay) t (c .before .if1 .taken))
+returns c =
+    let s = c .before .before .before .before in
+    λ t e. c .read-change .ensures t (s .args .delay) e ∙ ap (orderAnswer (s .args .delay) _ t) (order-change _ _ _ _ (s .args .delay) t (c .before .if1 .taken))
 
 returns-2 : tie.Need-returns-2
 returns-2 c = λ t e. order-unknown _ _ _ _ _ t (c .if2 .taken)
@@ -36,7 +38,9 @@ add-t12 : tie.Need-add-t12
 add-t12 c = search needs
 
 with-order-requires : tie.Need-with-order-requires
-with-order-requires c κs = (omega arith, omega (arith, c .before .taken .ensures (c .before .before .before .before .before .before .args .unit .now) (c .before .before .before .before .before .before .args .at + 1)))
+with-order-requires c κs =
+    let s = c .before .before .before .before .before .before in
+    (omega arith, omega (arith, c .before .taken .ensures (s .args .unit .now) (s .args .at + 1)))
 
 returns-4 : tie.Need-returns-4
 returns-4 c = λ t e. order-told _ _ _ _ _ t (omega arith) _ _ (c .before .before .taken .ensures _ _) (omega arith) (c .with-order .ensures t e)

@@ -29,10 +29,15 @@ enum-known-next : tie.Need-enum-known-next Inv-loop μ-loop
 enum-known-next c = search needs
 
 loop-less : tie.Need-loop-less Inv-loop μ-loop
-loop-less c = omega (arith, commanding-falls _ _ _ _ _ (c .before .before .before .before .before .before .before .before .before .pre .2) _ _ (c .before .before .before .before .before .before .before .loop .inv) _ _ (λ t e. sym (c .before .next .given .1) ∙ c .before .before .before .read-command .ensures t e) (c .before .before .before .before .before .before .before .before .before .pre .0) .0, commanding-falls _ _ _ _ _ (c .before .before .before .before .before .before .before .before .before .pre .2) _ _ (c .before .before .before .before .before .before .before .loop .inv) _ _ (λ t e. sym (c .before .next .given .1) ∙ c .before .before .before .read-command .ensures t e) (c .before .before .before .before .before .before .before .before .before .pre .0) .1)
+loop-less c =
+    let s = c .before .before .before .before .before .before .before .before .before in
+    let u = c .before .before .before .before .before .before .before in
+    omega (arith, commanding-falls _ _ _ _ _ (s .pre .2) _ _ (u .loop .inv) _ _ (λ t e. sym (c .before .next .given .1) ∙ c .before .before .before .read-command .ensures t e) (s .pre .0) .0, commanding-falls _ _ _ _ _ (s .pre .2) _ _ (u .loop .inv) _ _ (λ t e. sym (c .before .next .given .1) ∙ c .before .before .before .read-command .ensures t e) (s .pre .0) .1)
 
 loop-again : tie.Need-loop-again Inv-loop μ-loop
-loop-again c = commanding-goes _ _ _ _ _ (c .before .before .before .before .before .before .before .before .before .pre .2) _ _ (c .before .before .before .before .before .before .before .loop .inv) _ _ (λ t e. sym (c .before .next .given .1) ∙ c .before .before .before .read-command .ensures t e) (c .before .before .before .before .before .before .before .before .before .pre .0) (c .before .before .before .before .before .before .loop-test .taken) (c .before .before .before .before .if1 .left)
+loop-again c =
+    let s = c .before .before .before .before .before .before .before .before .before in
+    commanding-goes _ _ _ _ _ (s .pre .2) _ _ (c .before .before .before .before .before .before .before .loop .inv) _ _ (λ t e. sym (c .before .next .given .1) ∙ c .before .before .before .read-command .ensures t e) (s .pre .0) (c .before .before .before .before .before .before .loop-test .taken) (c .before .before .before .before .if1 .left)
 
 enum-known-number : tie.Need-enum-known-number Inv-loop μ-loop
 enum-known-number c = search needs

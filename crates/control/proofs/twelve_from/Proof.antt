@@ -20,7 +20,9 @@ twelve-of-requires : tie.Need-twelve-of-requires
 twelve-of-requires c κs = search needs
 
 returns : tie.Need-returns
-returns c = c .twelve-of .ensures ∙ twelve-from (c .before .before .before .before .args .unit .now) (c .before .before .before .before .args .q) (omega (arith, c .before .before .before .shared-slice-known .given (c .before .before .before .before .args .q))) (omega (arith, c .before .before .before .shared-slice-known .given (c .before .before .before .before .args .q + 1)))
+returns c =
+    let s = c .before .before .before .before in
+    c .twelve-of .ensures ∙ twelve-from (s .args .unit .now) (s .args .q) (omega (arith, c .before .before .before .shared-slice-known .given (s .args .q))) (omega (arith, c .before .before .before .shared-slice-known .given (s .args .q + 1)))
 
 pub twelve-from-spec : {M : Type 1} → statement M
 twelve-from-spec =

@@ -20,7 +20,9 @@ low-twelve-of-requires : tie.Need-low-twelve-of-requires
 low-twelve-of-requires c κs = search needs
 
 returns : tie.Need-returns
-returns c = c .low-twelve-of .ensures ∙ twelve-to (c .before .before .before .before .args .unit .now) (c .before .before .before .before .args .q) (omega (arith, c .before .before .before .shared-slice-known .given (c .before .before .before .before .args .q + 1)))
+returns c =
+    let s = c .before .before .before .before in
+    c .low-twelve-of .ensures ∙ twelve-to (s .args .unit .now) (s .args .q) (omega (arith, c .before .before .before .shared-slice-known .given (s .args .q + 1)))
 
 pub twelve-to-spec : {M : Type 1} → statement M
 twelve-to-spec =

@@ -37,7 +37,9 @@ with-selectors-requires c κs = search needs
 
 returns-4 : tie.Need-returns-4
 unfolding plainAt
-returns-4 c = λ t e. told-as _ _ 3 _ _ t _ (c .before .before .if4 .taken) (given-one selectors (c .before .before .before .before .before .before .before .args .delay) _ _ (c .before .word-at .ensures) t (c .with-selectors .ensures t (c .before .before .before .before .before .before .before .args .delay) e))
+returns-4 c =
+    let s = c .before .before .before .before .before .before .before in
+    λ t e. told-as _ _ 3 _ _ t _ (c .before .before .if4 .taken) (given-one selectors (s .args .delay) _ _ (c .before .word-at .ensures) t (c .with-selectors .ensures t (s .args .delay) e))
 
 word-at-requires-2 : tie.Need-word-at-requires-2
 unfolding plainAt
@@ -48,7 +50,9 @@ with-alphas-requires c κs = search needs
 
 returns-5 : tie.Need-returns-5
 unfolding plainAt
-returns-5 c = λ t e. told-as _ _ 4 _ _ t _ (c .before .before .if5 .taken) (given-one alphas (c .before .before .before .before .before .before .before .before .args .delay) _ _ (c .before .word-at2 .ensures) t (c .with-alphas .ensures t (c .before .before .before .before .before .before .before .before .args .delay) e))
+returns-5 c =
+    let s = c .before .before .before .before .before .before .before .before in
+    λ t e. told-as _ _ 4 _ _ t _ (c .before .before .if5 .taken) (given-one alphas (s .args .delay) _ _ (c .before .word-at2 .ensures) t (c .with-alphas .ensures t (s .args .delay) e))
 
 with-area-at-requires : tie.Need-with-area-at-requires
 unfolding plainAt
@@ -76,7 +80,9 @@ with-offsets-requires c κs = search needs
 
 returns-7 : tie.Need-returns-7
 unfolding plainAt
-returns-7 c = λ t e. told-as (c .before .before .before .before .before .before .before .before .before .before .args .unit .now) (c .before .before .before .before .before .before .before .before .before .before .args .p) 6 (c .before .before .before .before .before .before .before .before .before .before .args .code) (c .before .before .before .before .before .before .before .before .before .before .args .delay) t _ (omega arith) (given-two (c .before .before .before .before .before .before .before .before .before .before .args .delay) _ _ _ _ (c .before .before .word-at3 .ensures) (c .before .word-at4 .ensures) t (c .with-offsets .ensures t (c .before .before .before .before .before .before .before .before .before .before .args .delay) e))
+returns-7 c =
+    let s = c .before .before .before .before .before .before .before .before .before .before in
+    λ t e. told-as (s .args .unit .now) (s .args .p) 6 (s .args .code) (s .args .delay) t _ (omega arith) (given-two (s .args .delay) _ _ _ _ (c .before .before .word-at3 .ensures) (c .before .word-at4 .ensures) t (c .with-offsets .ensures t (s .args .delay) e))
 
 pub with-order-spec : {M : Type 1} → statement M
 with-order-spec =

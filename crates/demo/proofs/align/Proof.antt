@@ -9,7 +9,9 @@ returns : tie.Need-returns
 returns c = (omega arith, c .before .before .before .pre .0, λ ns o h. evened-even ns o (c .before .before .before .args .w) _ (c .if1 .taken) h)
 
 write-requires : tie.Need-write-requires
-write-requires c κs = (omega arith, c .before .before .before .before .pre .0, c .before .before .before .before .pre .1)
+write-requires c κs =
+    let s = c .before .before .before .before in
+    (omega arith, s .pre .0, s .pre .1)
 
 same-length : tie.Need-same-length
 same-length c = search needs

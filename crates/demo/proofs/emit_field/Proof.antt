@@ -20,25 +20,40 @@ loop-holds : tie.Need-loop-holds Inv-loop μ-loop
 loop-holds c = fielding-starts _ _ _ _ _ _ (omega (arith, c .before .before .pre .2)) (c .before .before .pre .5)
 
 mul-from : tie.Need-mul-from Inv-loop μ-loop
-mul-from c = let s = row-small (c .before .before .before .before .args .width) (c .before .before .before .before .args .height) (c .before .loop .row) (c .before .before .before .before .pre .0) (c .before .before .before .before .pre .1) (c .loop-test .taken) in let f = row-fits (c .before .before .before .before .args .width) (c .before .before .before .before .args .height) (c .before .loop .row) (c .loop-test .taken) in let e = c .before .before .before .before .pre .3 in omega arith
+mul-from c =
+    let t = c .before .before .before .before in
+    let s = row-small (t .args .width) (t .args .height) (c .before .loop .row) (t .pre .0) (t .pre .1) (c .loop-test .taken) in let f = row-fits (t .args .width) (t .args .height) (c .before .loop .row) (c .loop-test .taken) in let e = t .pre .3 in omega arith
 
 add-end : tie.Need-add-end Inv-loop μ-loop
-add-end c = let s = row-small (c .before .before .before .before .args .width) (c .before .before .before .before .args .height) (c .before .loop .row) (c .before .before .before .before .pre .0) (c .before .before .before .before .pre .1) (c .loop-test .taken) in let f = row-fits (c .before .before .before .before .args .width) (c .before .before .before .before .args .height) (c .before .loop .row) (c .loop-test .taken) in let e = c .before .before .before .before .pre .3 in omega arith
+add-end c =
+    let t = c .before .before .before .before in
+    let s = row-small (t .args .width) (t .args .height) (c .before .loop .row) (t .pre .0) (t .pre .1) (c .loop-test .taken) in let f = row-fits (t .args .width) (t .args .height) (c .before .loop .row) (c .loop-test .taken) in let e = t .pre .3 in omega arith
 
 sub-emit-row : tie.Need-sub-emit-row Inv-loop μ-loop
-sub-emit-row c = let s = row-small (c .before .before .before .before .args .width) (c .before .before .before .before .args .height) (c .before .loop .row) (c .before .before .before .before .pre .0) (c .before .before .before .before .pre .1) (c .loop-test .taken) in let f = row-fits (c .before .before .before .before .args .width) (c .before .before .before .before .args .height) (c .before .loop .row) (c .loop-test .taken) in let e = c .before .before .before .before .pre .3 in omega arith
+sub-emit-row c =
+    let t = c .before .before .before .before in
+    let s = row-small (t .args .width) (t .args .height) (c .before .loop .row) (t .pre .0) (t .pre .1) (c .loop-test .taken) in let f = row-fits (t .args .width) (t .args .height) (c .before .loop .row) (c .loop-test .taken) in let e = t .pre .3 in omega arith
 
 part-emit-row-start : tie.Need-part-emit-row-start Inv-loop μ-loop
-part-emit-row-start c = let s = row-small (c .before .before .before .before .args .width) (c .before .before .before .before .args .height) (c .before .loop .row) (c .before .before .before .before .pre .0) (c .before .before .before .before .pre .1) (c .loop-test .taken) in let f = row-fits (c .before .before .before .before .args .width) (c .before .before .before .before .args .height) (c .before .loop .row) (c .loop-test .taken) in let e = c .before .before .before .before .pre .3 in omega arith
+part-emit-row-start c =
+    let t = c .before .before .before .before in
+    let s = row-small (t .args .width) (t .args .height) (c .before .loop .row) (t .pre .0) (t .pre .1) (c .loop-test .taken) in let f = row-fits (t .args .width) (t .args .height) (c .before .loop .row) (c .loop-test .taken) in let e = t .pre .3 in omega arith
 
 part-emit-row-end : tie.Need-part-emit-row-end Inv-loop μ-loop
-part-emit-row-end c = let s = row-small (c .before .before .before .before .args .width) (c .before .before .before .before .args .height) (c .before .loop .row) (c .before .before .before .before .pre .0) (c .before .before .before .before .pre .1) (c .loop-test .taken) in let f = row-fits (c .before .before .before .before .args .width) (c .before .before .before .before .args .height) (c .before .loop .row) (c .loop-test .taken) in let e = c .before .before .before .before .pre .3 in omega arith
+part-emit-row-end c =
+    let t = c .before .before .before .before in
+    let s = row-small (t .args .width) (t .args .height) (c .before .loop .row) (t .pre .0) (t .pre .1) (c .loop-test .taken) in let f = row-fits (t .args .width) (t .args .height) (c .before .loop .row) (c .loop-test .taken) in let e = t .pre .3 in omega arith
 
 emit-row-requires : tie.Need-emit-row-requires Inv-loop μ-loop
-emit-row-requires c κs = let s = row-small (c .before .before .before .before .before .before .args .width) (c .before .before .before .before .before .before .args .height) (c .before .before .before .loop .row) (c .before .before .before .before .before .before .pre .0) (c .before .before .before .before .before .before .pre .1) (c .before .before .loop-test .taken) in let f = row-fits (c .before .before .before .before .before .before .args .width) (c .before .before .before .before .before .before .args .height) (c .before .before .before .loop .row) (c .before .before .loop-test .taken) in let e = c .before .before .before .before .before .before .pre .3 in let b = c .before .before .before .loop .inv .bound in let p = c .before .before .before .before .before .before .pre .6 in let h = c .before .before .before .before .before .before .pre .1 in let v = c .before .before .before .before .before .before .pre .0 in let y = row-part-length (c .before .before .before .before .before .before .args .width) (c .before .before .before .before .before .before .args .indices .now) (c .before .before .before .loop .row) (omega arith) in (row-part-four (c .before .before .before .before .before .before .args .width) (c .before .before .before .before .before .before .args .indices .now) (c .before .before .before .loop .row) (c .before .before .before .before .before .before .pre .4), c .before .before .before .loop .inv .small, omega (arith, c .before .before .loop-test .taken))
+emit-row-requires c κs =
+    let t = c .before .before .before .before .before .before in
+    let s = row-small (t .args .width) (t .args .height) (c .before .before .before .loop .row) (t .pre .0) (t .pre .1) (c .before .before .loop-test .taken) in let f = row-fits (t .args .width) (t .args .height) (c .before .before .before .loop .row) (c .before .before .loop-test .taken) in let e = t .pre .3 in let b = c .before .before .before .loop .inv .bound in let p = t .pre .6 in let h = t .pre .1 in let v = t .pre .0 in let y = row-part-length (t .args .width) (t .args .indices .now) (c .before .before .before .loop .row) (omega arith) in (row-part-four (t .args .width) (t .args .indices .now) (c .before .before .before .loop .row) (t .pre .4), c .before .before .before .loop .inv .small, omega (arith, c .before .before .loop-test .taken))
 
 align-requires : tie.Need-align-requires Inv-loop μ-loop
-align-requires c κs = let s = row-small (c .before .before .before .before .before .before .before .before .before .before .args .width) (c .before .before .before .before .before .before .before .before .before .before .args .height) (c .before .before .before .before .before .before .before .loop .row) (c .before .before .before .before .before .before .before .before .before .before .pre .0) (c .before .before .before .before .before .before .before .before .before .before .pre .1) (c .before .before .before .before .before .before .loop-test .taken) in let f = row-fits (c .before .before .before .before .before .before .before .before .before .before .args .width) (c .before .before .before .before .before .before .before .before .before .before .args .height) (c .before .before .before .before .before .before .before .loop .row) (c .before .before .before .before .before .before .loop-test .taken) in let e = c .before .before .before .before .before .before .before .before .before .before .pre .3 in let b = c .before .before .before .before .before .before .before .loop .inv .bound in let p = c .before .before .before .before .before .before .before .before .before .before .pre .6 in let h = c .before .before .before .before .before .before .before .before .before .before .pre .1 in let v = c .before .before .before .before .before .before .before .before .before .before .pre .0 in let y = row-part-length (c .before .before .before .before .before .before .before .before .before .before .args .width) (c .before .before .before .before .before .before .before .before .before .before .args .indices .now) (c .before .before .before .before .before .before .before .loop .row) (omega arith) in (c .before .before .before .emit-row .ensures .1, omega (arith, c .before .before .before .emit-row .ensures .0, c .before .before .before .before .before .before .loop-test .taken))
+align-requires c κs =
+    let t = c .before .before .before .before .before .before .before .before .before .before in
+    let u = c .before .before .before .before .before .before .before in
+    let s = row-small (t .args .width) (t .args .height) (u .loop .row) (t .pre .0) (t .pre .1) (c .before .before .before .before .before .before .loop-test .taken) in let f = row-fits (t .args .width) (t .args .height) (u .loop .row) (c .before .before .before .before .before .before .loop-test .taken) in let e = t .pre .3 in let b = u .loop .inv .bound in let p = t .pre .6 in let h = t .pre .1 in let v = t .pre .0 in let y = row-part-length (t .args .width) (t .args .indices .now) (u .loop .row) (omega arith) in (c .before .before .before .emit-row .ensures .1, omega (arith, c .before .before .before .emit-row .ensures .0, c .before .before .before .before .before .before .loop-test .taken))
 
 add-row : tie.Need-add-row Inv-loop μ-loop
 add-row c = omega (arith, c .before .before .before .before .before .before .before .before .before .loop-test .taken, c .before .before .before .before .before .before .before .before .before .before .before .before .before .pre .1)
@@ -47,7 +62,10 @@ loop-less : tie.Need-loop-less Inv-loop μ-loop
 loop-less c = omega (arith, c .before .before .before .before .before .before .before .before .before .loop-test .taken)
 
 loop-again : tie.Need-loop-again Inv-loop μ-loop
-loop-again c = let s = row-small (c .before .before .before .before .before .before .before .before .before .before .before .before .before .args .width) (c .before .before .before .before .before .before .before .before .before .before .before .before .before .args .height) (c .before .before .before .before .before .before .before .before .before .before .loop .row) (c .before .before .before .before .before .before .before .before .before .before .before .before .before .pre .0) (c .before .before .before .before .before .before .before .before .before .before .before .before .before .pre .1) (c .before .before .before .before .before .before .before .before .before .loop-test .taken) in let f = row-fits (c .before .before .before .before .before .before .before .before .before .before .before .before .before .args .width) (c .before .before .before .before .before .before .before .before .before .before .before .before .before .args .height) (c .before .before .before .before .before .before .before .before .before .before .loop .row) (c .before .before .before .before .before .before .before .before .before .loop-test .taken) in let e = c .before .before .before .before .before .before .before .before .before .before .before .before .before .pre .3 in let b = c .before .before .before .before .before .before .before .before .before .before .loop .inv .bound in let p = c .before .before .before .before .before .before .before .before .before .before .before .before .before .pre .6 in let h = c .before .before .before .before .before .before .before .before .before .before .before .before .before .pre .1 in let v = c .before .before .before .before .before .before .before .before .before .before .before .before .before .pre .0 in let y = row-part-length (c .before .before .before .before .before .before .before .before .before .before .before .before .before .args .width) (c .before .before .before .before .before .before .before .before .before .before .before .before .before .args .indices .now) (c .before .before .before .before .before .before .before .before .before .before .loop .row) (omega arith) in fielding-goes (c .before .before .before .before .before .before .before .before .before .before .before .before .before .args .indices .now) (c .before .before .before .before .before .before .before .before .before .before .before .before .before .args .width) (c .before .before .before .before .before .before .before .before .before .before .before .before .before .args .height) _ _ _ _ _ (c .before .before .before .before .before .before .before .before .before .before .loop .row) (c .before .before .before .before .before .before .before .before .before .before .loop .inv) (c .before .before .before .before .before .before .before .before .before .loop-test .taken) _ _ (omega (arith, c .before .before .align .ensures .0, c .before .before .before .before .before .before .emit-row .ensures .0)) (c .before .before .align .ensures .1) (c .before .before .align .kept .1 .0 ∙ c .before .before .before .before .before .before .emit-row .kept .1 .1 .0) (λ ns o i. inked-as _ _ _ _ _ (ap (λ (l : List ℕ). evened (ns ++ nibblesOf (rowMarks lastMarks l))) (row-part (c .before .before .before .before .before .before .before .before .before .before .before .before .before .args .width) (c .before .before .before .before .before .before .before .before .before .before .before .before .before .args .indices .now) (c .before .before .before .before .before .before .before .before .before .before .loop .row))) (c .before .before .align .ensures .2 _ o (c .before .before .before .before .before .before .emit-row .ensures .2 ns o i)))
+loop-again c =
+    let t = c .before .before .before .before .before .before .before .before .before .before .before .before .before in
+    let u = c .before .before .before .before .before .before .before .before .before .before in
+    let s = row-small (t .args .width) (t .args .height) (u .loop .row) (t .pre .0) (t .pre .1) (c .before .before .before .before .before .before .before .before .before .loop-test .taken) in let f = row-fits (t .args .width) (t .args .height) (u .loop .row) (c .before .before .before .before .before .before .before .before .before .loop-test .taken) in let e = t .pre .3 in let b = u .loop .inv .bound in let p = t .pre .6 in let h = t .pre .1 in let v = t .pre .0 in let y = row-part-length (t .args .width) (t .args .indices .now) (u .loop .row) (omega arith) in fielding-goes (t .args .indices .now) (t .args .width) (t .args .height) _ _ _ _ _ (u .loop .row) (u .loop .inv) (c .before .before .before .before .before .before .before .before .before .loop-test .taken) _ _ (omega (arith, c .before .before .align .ensures .0, c .before .before .before .before .before .before .emit-row .ensures .0)) (c .before .before .align .ensures .1) (c .before .before .align .kept .1 .0 ∙ c .before .before .before .before .before .before .emit-row .kept .1 .1 .0) (λ ns o i. inked-as _ _ _ _ _ (ap (λ (l : List ℕ). evened (ns ++ nibblesOf (rowMarks lastMarks l))) (row-part (t .args .width) (t .args .indices .now) (u .loop .row))) (c .before .before .align .ensures .2 _ o (c .before .before .before .before .before .before .emit-row .ensures .2 ns o i)))
 
 same-length : tie.Need-same-length Inv-loop μ-loop
 same-length c = c .before .loop .inv .size

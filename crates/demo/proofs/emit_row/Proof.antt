@@ -42,25 +42,42 @@ cast-emit-code : tie.Need-cast-emit-code Inv-loop μ-loop
 cast-emit-code c = omega (arith, c .before .shared-slice-known2 .given (c .before .before .before .before .before .loop .col))
 
 emit-code-requires : tie.Need-emit-code-requires Inv-loop μ-loop
-emit-code-requires c κs = let p = c .before .before .before .before .before .before .before .before .before .pre .2 in let b = c .before .before .before .before .before .before .loop .inv .bound in let t = c .before .before .before .before .before .loop-test .taken in (c .before .before .before .before .before .before .loop .inv .small, omega arith)
+emit-code-requires c κs =
+    let s = c .before .before .before .before .before .before in
+    let p = c .before .before .before .before .before .before .before .before .before .pre .2 in let b = s .loop .inv .bound in let t = c .before .before .before .before .before .loop-test .taken in (s .loop .inv .small, omega arith)
 
 same-length : tie.Need-same-length Inv-loop μ-loop
 same-length c = c .before .before .emit-code .kept .1 .1 .1 .0 ∙ c .before .before .before .before .before .before .before .before .before .loop .inv .size
 
 returns : tie.Need-returns Inv-loop μ-loop
-returns c = let p = c .before .before .before .before .before .before .before .before .before .before .before .before .pre .2 in let b = c .before .before .before .before .before .before .before .before .before .loop .inv .bound in let t = c .before .before .before .before .before .before .before .before .loop-test .taken in (omega (arith, c .before .before .emit-code .ensures .0), c .before .before .emit-code .ensures .1, rowing-ends (c .before .before .before .before .before .before .before .before .before .before .before .before .args .row .now) _ _ _ _ (c .before .before .before .before .before .before .before .before .before .loop .col) (c .before .before .before .before .before .before .before .before .before .loop .inv) t _ (c .before .before .before .before .before .before .run-length .ensures .0 ∙ ap (λ (s : List ℕ). lead (byte s 0) s) (rest-is (c .before .before .before .before .before .before .before .before .before .before .before .before .args .row .now) (c .before .before .before .before .before .before .before .before .before .loop .col))) (c .before .before .before .before .if1 .taken) _ _ (c .before .before .emit-code .ensures .2))
+returns c =
+    let u = c .before .before .before .before .before .before .before .before .before .before .before .before in
+    let v = c .before .before .before .before .before .before .before .before .before in
+    let p = u .pre .2 in let b = v .loop .inv .bound in let t = c .before .before .before .before .before .before .before .before .loop-test .taken in (omega (arith, c .before .before .emit-code .ensures .0), c .before .before .emit-code .ensures .1, rowing-ends (u .args .row .now) _ _ _ _ (v .loop .col) (v .loop .inv) t _ (c .before .before .before .before .before .before .run-length .ensures .0 ∙ ap (λ (s : List ℕ). lead (byte s 0) s) (rest-is (u .args .row .now) (v .loop .col))) (c .before .before .before .before .if1 .taken) _ _ (c .before .before .emit-code .ensures .2))
 
 emit-rle-requires : tie.Need-emit-rle-requires Inv-loop μ-loop
-emit-rle-requires c κs = let p = c .before .before .before .before .before .before .before .before .before .pre .2 in let b = c .before .before .before .before .before .before .loop .inv .bound in let t = c .before .before .before .before .before .loop-test .taken in let u = c .before .before .before .run-length .ensures .2 in let n = c .before .before .before .run-length .ensures .1 in let l = rest-length (c .before .before .before .before .before .before .before .before .before .args .row .now) (c .before .before .before .before .before .before .loop .col) (omega (arith, c .before .before .before .before .before .loop-test .taken)) in let x = c .before .if1 .left in (n, four-byte (c .before .before .before .before .before .before .before .before .before .args .row .now) (c .before .before .before .before .before .before .loop .col) (c .before .before .before .before .before .before .before .before .before .pre .0), c .before .before .before .before .before .before .loop .inv .small, omega arith)
+emit-rle-requires c κs =
+    let s = c .before .before .before .before .before .before .before .before .before in
+    let v = c .before .before .before .before .before .before in
+    let p = s .pre .2 in let b = v .loop .inv .bound in let t = c .before .before .before .before .before .loop-test .taken in let u = c .before .before .before .run-length .ensures .2 in let n = c .before .before .before .run-length .ensures .1 in let l = rest-length (s .args .row .now) (v .loop .col) (omega (arith, c .before .before .before .before .before .loop-test .taken)) in let x = c .before .if1 .left in (n, four-byte (s .args .row .now) (v .loop .col) (s .pre .0), v .loop .inv .small, omega arith)
 
 add-col : tie.Need-add-col Inv-loop μ-loop
-add-col c = let p = c .before .before .before .before .before .before .before .before .before .before .before .before .pre .2 in let b = c .before .before .before .before .before .before .before .before .before .loop .inv .bound in let t = c .before .before .before .before .before .before .before .before .loop-test .taken in let u = c .before .before .before .before .before .before .run-length .ensures .2 in let n = c .before .before .before .before .before .before .run-length .ensures .1 in let l = rest-length (c .before .before .before .before .before .before .before .before .before .before .before .before .args .row .now) (c .before .before .before .before .before .before .before .before .before .loop .col) (omega (arith, c .before .before .before .before .before .before .before .before .loop-test .taken)) in let x = c .before .before .before .before .if1 .left in omega arith
+add-col c =
+    let s = c .before .before .before .before .before .before .before .before .before .before .before .before in
+    let v = c .before .before .before .before .before .before .before .before .before in
+    let p = s .pre .2 in let b = v .loop .inv .bound in let t = c .before .before .before .before .before .before .before .before .loop-test .taken in let u = c .before .before .before .before .before .before .run-length .ensures .2 in let n = c .before .before .before .before .before .before .run-length .ensures .1 in let l = rest-length (s .args .row .now) (v .loop .col) (omega (arith, c .before .before .before .before .before .before .before .before .loop-test .taken)) in let x = c .before .before .before .before .if1 .left in omega arith
 
 loop-less : tie.Need-loop-less Inv-loop μ-loop
-loop-less c = let p = c .before .before .before .before .before .before .before .before .before .before .before .before .pre .2 in let b = c .before .before .before .before .before .before .before .before .before .loop .inv .bound in let t = c .before .before .before .before .before .before .before .before .loop-test .taken in let u = c .before .before .before .before .before .before .run-length .ensures .2 in let n = c .before .before .before .before .before .before .run-length .ensures .1 in let l = rest-length (c .before .before .before .before .before .before .before .before .before .before .before .before .args .row .now) (c .before .before .before .before .before .before .before .before .before .loop .col) (omega (arith, c .before .before .before .before .before .before .before .before .loop-test .taken)) in let x = c .before .before .before .before .if1 .left in omega arith
+loop-less c =
+    let s = c .before .before .before .before .before .before .before .before .before .before .before .before in
+    let v = c .before .before .before .before .before .before .before .before .before in
+    let p = s .pre .2 in let b = v .loop .inv .bound in let t = c .before .before .before .before .before .before .before .before .loop-test .taken in let u = c .before .before .before .before .before .before .run-length .ensures .2 in let n = c .before .before .before .before .before .before .run-length .ensures .1 in let l = rest-length (s .args .row .now) (v .loop .col) (omega (arith, c .before .before .before .before .before .before .before .before .loop-test .taken)) in let x = c .before .before .before .before .if1 .left in omega arith
 
 loop-again : tie.Need-loop-again Inv-loop μ-loop
-loop-again c = let p = c .before .before .before .before .before .before .before .before .before .before .before .before .pre .2 in let b = c .before .before .before .before .before .before .before .before .before .loop .inv .bound in let t = c .before .before .before .before .before .before .before .before .loop-test .taken in let u = c .before .before .before .before .before .before .run-length .ensures .2 in let n = c .before .before .before .before .before .before .run-length .ensures .1 in let l = rest-length (c .before .before .before .before .before .before .before .before .before .before .before .before .args .row .now) (c .before .before .before .before .before .before .before .before .before .loop .col) (omega (arith, c .before .before .before .before .before .before .before .before .loop-test .taken)) in let x = c .before .before .before .before .if1 .left in rowing-goes (c .before .before .before .before .before .before .before .before .before .before .before .before .args .row .now) _ _ _ _ (c .before .before .before .before .before .before .before .before .before .loop .col) (c .before .before .before .before .before .before .before .before .before .loop .inv) t _ (c .before .before .before .before .before .before .run-length .ensures .0 ∙ ap (λ (s : List ℕ). lead (byte s 0) s) (rest-is (c .before .before .before .before .before .before .before .before .before .before .before .before .args .row .now) (c .before .before .before .before .before .before .before .before .before .loop .col))) (omega arith) _ _ (c .before .before .emit-rle .ensures .0) (c .before .before .emit-rle .ensures .1) (c .before .before .emit-rle .kept .1 .1 .1 .0) (c .before .before .emit-rle .ensures .2)
+loop-again c =
+    let v = c .before .before .before .before .before .before .before .before .before .before .before .before in
+    let w = c .before .before .before .before .before .before .before .before .before in
+    let p = v .pre .2 in let b = w .loop .inv .bound in let t = c .before .before .before .before .before .before .before .before .loop-test .taken in let u = c .before .before .before .before .before .before .run-length .ensures .2 in let n = c .before .before .before .before .before .before .run-length .ensures .1 in let l = rest-length (v .args .row .now) (w .loop .col) (omega (arith, c .before .before .before .before .before .before .before .before .loop-test .taken)) in let x = c .before .before .before .before .if1 .left in rowing-goes (v .args .row .now) _ _ _ _ (w .loop .col) (w .loop .inv) t _ (c .before .before .before .before .before .before .run-length .ensures .0 ∙ ap (λ (s : List ℕ). lead (byte s 0) s) (rest-is (v .args .row .now) (w .loop .col))) (omega arith) _ _ (c .before .before .emit-rle .ensures .0) (c .before .before .emit-rle .ensures .1) (c .before .before .emit-rle .kept .1 .1 .1 .0) (c .before .before .emit-rle .ensures .2)
 
 same-length-2 : tie.Need-same-length-2 Inv-loop μ-loop
 same-length-2 c = c .before .loop .inv .size

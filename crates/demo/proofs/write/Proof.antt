@@ -22,13 +22,17 @@ same-length : tie.Need-same-length
 same-length c = search needs
 
 returns : tie.Need-returns
-returns c = (refl, c .before .before .before .before .before .before .before .before .before .pre .0, λ ns o h. ink-even ns o (c .before .before .before .before .before .before .before .before .before .args .w) _ h (c .before .before .before .before .before .before .before .before .before .args .nibble) _ refl (c .before .before .before .before .before .if1 .taken) refl _ (c .before .before .before .store .ensures))
+returns c =
+    let s = c .before .before .before .before .before .before .before .before .before in
+    (refl, s .pre .0, λ ns o h. ink-even ns o (s .args .w) _ h (s .args .nibble) _ refl (c .before .before .before .before .before .if1 .taken) refl _ (c .before .before .before .store .ensures))
 
 mul-store-2 : tie.Need-mul-store-2
 mul-store-2 c = omega (arith, c .before .before .before .before .before .before .pre .1)
 
 add-store : tie.Need-add-store
-add-store c = omega (arith, c .before .before .before .before .before .before .pre .1, c .before .before .before .before .before .before .pre .0)
+add-store c =
+    let s = c .before .before .before .before .before .before in
+    omega (arith, s .pre .1, s .pre .0)
 
 store-requires-2 : tie.Need-store-requires-2
 store-requires-2 c κs = search needs
@@ -40,7 +44,9 @@ same-length-2 : tie.Need-same-length-2
 same-length-2 c = search needs
 
 returns-2 : tie.Need-returns-2
-returns-2 c = (refl, omega arith, λ ns o h. ink-odd ns o (c .before .before .before .before .before .before .before .before .before .before .args .w) _ h (c .before .before .before .before .before .before .before .before .before .before .args .nibble) _ refl (c .before .before .before .before .before .before .if1 .left) refl _ (c .before .before .before .store2 .ensures))
+returns-2 c =
+    let s = c .before .before .before .before .before .before .before .before .before .before in
+    (refl, omega arith, λ ns o h. ink-odd ns o (s .args .w) _ h (s .args .nibble) _ refl (c .before .before .before .before .before .before .if1 .left) refl _ (c .before .before .before .store2 .ensures))
 
 pub write-spec : {M : Type 1} → statement M
 write-spec =

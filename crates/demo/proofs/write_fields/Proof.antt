@@ -16,7 +16,10 @@ same-length : tie.Need-same-length
 same-length c = search needs
 
 returns : tie.Need-returns
-returns c = let h = c .before .before .before .before .before .before .before .before .before .before .pre .h-most in fields-written (c .before .before .before .before .before .before .before .before .before .before .args .width) (c .before .before .before .before .before .before .before .before .before .before .args .height) (c .before .before .before .before .before .before .before .before .before .before .args .indices .now) _ _ _ _ _ _ refl refl (c .before .before .before .before .before .before .emit-field .ensures .2) (c .before .before .emit-field2 .ensures .2) _ refl refl (omega (arith, c .before .before .before .before .before .before .emit-field .ensures .0, c .before .before .emit-field2 .ensures .0))
+returns c =
+    let s = c .before .before .before .before .before .before .before .before .before .before in
+    let t = c .before .before .before .before .before .before in
+    let h = s .pre .h-most in fields-written (s .args .width) (s .args .height) (s .args .indices .now) _ _ _ _ _ _ refl refl (t .emit-field .ensures .2) (c .before .before .emit-field2 .ensures .2) _ refl refl (omega (arith, t .emit-field .ensures .0, c .before .before .emit-field2 .ensures .0))
 
 pub write-fields-spec : {M : Type 1} → statement M
 write-fields-spec =

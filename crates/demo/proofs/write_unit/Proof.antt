@@ -27,13 +27,19 @@ same-length : tie.Need-same-length
 same-length c = search needs
 
 returns : tie.Need-returns
-returns c = let g = unit-long (c .before .before .before .before .before .before .before .before .args .width) (c .before .before .before .before .before .before .before .before .args .height) (c .before .before .before .before .before .before .before .before .args .indices .now) (c .before .before .before .before .write-fields .result) (c .before .before .before .before .write-fields .ensures .ends) (c .before .before .before .before .before .before .before .before .args .out .now) (c .if1 .taken) in (g .0, measured-none (c .before .before .before .before .before .before .before .before .args .width) (c .before .before .before .before .before .before .before .before .args .height) (c .before .before .before .before .before .before .before .before .args .indices .now) (c .before .before .before .before .before .before .before .before .args .out .now) _ _ (c .before .before .before .before .write-fields .ensures) ∙ g .1)
+returns c =
+    let s = c .before .before .before .before .before .before .before .before in
+    let t = c .before .before .before .before in
+    let g = unit-long (s .args .width) (s .args .height) (s .args .indices .now) (t .write-fields .result) (t .write-fields .ensures .ends) (s .args .out .now) (c .if1 .taken) in (g .0, measured-none (s .args .width) (s .args .height) (s .args .indices .now) (s .args .out .now) _ _ (t .write-fields .ensures) ∙ g .1)
 
 same-length-2 : tie.Need-same-length-2
 same-length-2 c = search needs
 
 returns-2 : tie.Need-returns-2
-returns-2 c = let g = unit-short (c .before .before .before .before .before .before .before .before .before .args .width) (c .before .before .before .before .before .before .before .before .before .args .height) (c .before .before .before .before .before .before .before .before .before .args .indices .now) (c .before .before .before .before .before .write-fields .result) (c .before .before .before .before .before .write-fields .ensures .ends) (c .before .before .before .before .before .before .before .before .before .args .out .now) (c .before .if1 .left) (omega (arith, c .if2 .taken)) in (g .0, measured-none (c .before .before .before .before .before .before .before .before .before .args .width) (c .before .before .before .before .before .before .before .before .before .args .height) (c .before .before .before .before .before .before .before .before .before .args .indices .now) (c .before .before .before .before .before .before .before .before .before .args .out .now) _ _ (c .before .before .before .before .before .write-fields .ensures) ∙ g .1)
+returns-2 c =
+    let s = c .before .before .before .before .before .before .before .before .before in
+    let t = c .before .before .before .before .before in
+    let g = unit-short (s .args .width) (s .args .height) (s .args .indices .now) (t .write-fields .result) (t .write-fields .ensures .ends) (s .args .out .now) (c .before .if1 .left) (omega (arith, c .if2 .taken)) in (g .0, measured-none (s .args .width) (s .args .height) (s .args .indices .now) (s .args .out .now) _ _ (t .write-fields .ensures) ∙ g .1)
 
 put-unit-requires : tie.Need-put-unit-requires
 put-unit-requires c κs = search needs
@@ -42,7 +48,10 @@ same-length-3 : tie.Need-same-length-3
 same-length-3 c = search needs
 
 returns-3 : tie.Need-returns-3
-returns-3 c = unit-fits (c .before .before .before .before .before .before .before .before .before .before .before .before .before .args .width) (c .before .before .before .before .before .before .before .before .before .before .before .before .before .args .height) (c .before .before .before .before .before .before .before .before .before .before .before .before .before .args .indices .now) (c .before .before .before .before .before .before .before .before .before .write-fields .result) (c .before .before .before .before .before .before .before .before .before .write-fields .ensures .ends) (c .before .before .before .before .before .before .before .before .before .before .before .before .before .args .out .now) (c .before .before .before .before .before .if1 .left) (omega (arith, c .before .before .before .before .if2 .left)) _ (c .before .before .put-unit .ensures ∙ ap (λ (l : List ℕ). sets l 0 (unitOf lastMarks (c .before .before .before .before .before .before .before .before .before .before .before .before .before .args .width) (c .before .before .before .before .before .before .before .before .before .before .before .before .before .args .height) (c .before .before .before .before .before .before .before .before .before .before .before .before .before .args .indices .now))) (measured-none (c .before .before .before .before .before .before .before .before .before .before .before .before .before .args .width) (c .before .before .before .before .before .before .before .before .before .before .before .before .before .args .height) (c .before .before .before .before .before .before .before .before .before .before .before .before .before .args .indices .now) (c .before .before .before .before .before .before .before .before .before .before .before .before .before .args .out .now) _ _ (c .before .before .before .before .before .before .before .before .before .write-fields .ensures)))
+returns-3 c =
+    let s = c .before .before .before .before .before .before .before .before .before .before .before .before .before in
+    let t = c .before .before .before .before .before .before .before .before .before in
+    unit-fits (s .args .width) (s .args .height) (s .args .indices .now) (t .write-fields .result) (t .write-fields .ensures .ends) (s .args .out .now) (c .before .before .before .before .before .if1 .left) (omega (arith, c .before .before .before .before .if2 .left)) _ (c .before .before .put-unit .ensures ∙ ap (λ (l : List ℕ). sets l 0 (unitOf lastMarks (s .args .width) (s .args .height) (s .args .indices .now))) (measured-none (s .args .width) (s .args .height) (s .args .indices .now) (s .args .out .now) _ _ (t .write-fields .ensures)))
 
 pub write-unit-spec : {M : Type 1} → statement M
 write-unit-spec =

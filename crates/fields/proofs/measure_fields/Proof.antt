@@ -15,7 +15,9 @@ field-bytes-requires-2 : tie.Need-field-bytes-requires-2
 field-bytes-requires-2 c κs = search needs
 
 measure-both-requires : tie.Need-measure-both-requires
-measure-both-requires c κs = omega (arith, c .before .before .before .before .pre .2, both-few (c .before .before .before .before .args .height) (c .before .before .before .before .args .width))
+measure-both-requires c κs =
+    let s = c .before .before .before .before in
+    omega (arith, s .pre .2, both-few (s .args .height) (s .args .width))
 
 returns : tie.Need-returns
 returns c =

@@ -48,25 +48,43 @@ read-line-requires : tie.Need-read-line-requires Inv-loop μ-loop
 read-line-requires c κs = search needs
 
 store-cue-requires : tie.Need-store-cue-requires Inv-loop μ-loop
-store-cue-requires c κs = fill-fits (c .before .before .before .before .before .before .before .before .before .before .before .args .text .now) (c .before .before .before .before .before .before .before .before .loop .i) (c .before .before .before .before .before .before .until .result) (c .before .before .before .before .before .before .before .before .loop .inv .inside) (c .before .before .before .before .before .before .until .ensures) (c .before .before .before .before .trim .result .now) (c .before .before .before .before .trim .ensures) _ _ (c .before .before .read-line .result) (c .before .before .read-line .ensures) (c .before .before .before .before .before .before .before .before .before .before .before .args .starts .now) (c .before .before .before .before .before .before .before .before .before .before .before .args .positions .now) (c .before .before .before .before .before .before .before .before .loop .starts) (c .before .before .before .before .before .before .before .before .loop .positions) (c .before .before .before .before .before .before .before .before .loop .n) (c .before .before .before .before .before .before .before .before .loop .inv)
+store-cue-requires c κs =
+    let s = c .before .before .before .before .before .before .before .before in
+    let t = c .before .before .before .before .before .before .before .before .before .before .before in
+    fill-fits (t .args .text .now) (s .loop .i) (c .before .before .before .before .before .before .until .result) (s .loop .inv .inside) (c .before .before .before .before .before .before .until .ensures) (c .before .before .before .before .trim .result .now) (c .before .before .before .before .trim .ensures) _ _ (c .before .before .read-line .result) (c .before .before .read-line .ensures) (t .args .starts .now) (t .args .positions .now) (s .loop .starts) (s .loop .positions) (s .loop .n) (s .loop .inv)
 
 same-length : tie.Need-same-length Inv-loop μ-loop
-same-length c = long-starts (c .before .before .before .before .before .before .before .before .before .before .before .before .before .before .before .before .args .text .now) (c .before .before .before .before .before .before .before .before .before .before .before .before .before .loop .i) (c .before .before .before .before .before .before .before .before .before .before .before .until .result) (c .before .before .before .before .before .before .before .before .before .before .before .before .before .loop .inv .inside) (c .before .before .before .before .before .before .before .before .before .before .before .until .ensures) (c .before .before .before .before .before .before .before .before .before .trim .result .now) (c .before .before .before .before .before .before .before .before .before .trim .ensures) _ _ (c .before .before .before .before .before .before .before .read-line .result) (c .before .before .before .before .before .before .before .read-line .ensures) (c .before .before .before .before .before .before .before .before .before .before .before .before .before .before .before .before .args .starts .now) (c .before .before .before .before .before .before .before .before .before .before .before .before .before .before .before .before .args .positions .now) (c .before .before .before .before .before .before .before .before .before .before .before .before .before .loop .starts) (c .before .before .before .before .before .before .before .before .before .before .before .before .before .loop .positions) (c .before .before .before .before .before .before .before .before .before .before .before .before .before .loop .n) (c .before .before .before .before .before .before .before .before .before .before .before .before .before .loop .inv) _ _ _ (c .before .before .before .before .store-cue .ensures)
+same-length c =
+    let s = c .before .before .before .before .before .before .before .before .before .before .before .before .before in
+    let t = c .before .before .before .before .before .before .before .before .before .before .before .before .before .before .before .before in
+    long-starts (t .args .text .now) (s .loop .i) (c .before .before .before .before .before .before .before .before .before .before .before .until .result) (s .loop .inv .inside) (c .before .before .before .before .before .before .before .before .before .before .before .until .ensures) (c .before .before .before .before .before .before .before .before .before .trim .result .now) (c .before .before .before .before .before .before .before .before .before .trim .ensures) _ _ (c .before .before .before .before .before .before .before .read-line .result) (c .before .before .before .before .before .before .before .read-line .ensures) (t .args .starts .now) (t .args .positions .now) (s .loop .starts) (s .loop .positions) (s .loop .n) (s .loop .inv) _ _ _ (c .before .before .before .before .store-cue .ensures)
 
 same-length-2 : tie.Need-same-length-2 Inv-loop μ-loop
-same-length-2 c = long-positions (c .before .before .before .before .before .before .before .before .before .before .before .before .before .before .before .before .args .text .now) (c .before .before .before .before .before .before .before .before .before .before .before .before .before .loop .i) (c .before .before .before .before .before .before .before .before .before .before .before .until .result) (c .before .before .before .before .before .before .before .before .before .before .before .before .before .loop .inv .inside) (c .before .before .before .before .before .before .before .before .before .before .before .until .ensures) (c .before .before .before .before .before .before .before .before .before .trim .result .now) (c .before .before .before .before .before .before .before .before .before .trim .ensures) _ _ (c .before .before .before .before .before .before .before .read-line .result) (c .before .before .before .before .before .before .before .read-line .ensures) (c .before .before .before .before .before .before .before .before .before .before .before .before .before .before .before .before .args .starts .now) (c .before .before .before .before .before .before .before .before .before .before .before .before .before .before .before .before .args .positions .now) (c .before .before .before .before .before .before .before .before .before .before .before .before .before .loop .starts) (c .before .before .before .before .before .before .before .before .before .before .before .before .before .loop .positions) (c .before .before .before .before .before .before .before .before .before .before .before .before .before .loop .n) (c .before .before .before .before .before .before .before .before .before .before .before .before .before .loop .inv) _ _ _ (c .before .before .before .before .store-cue .ensures)
+same-length-2 c =
+    let s = c .before .before .before .before .before .before .before .before .before .before .before .before .before in
+    let t = c .before .before .before .before .before .before .before .before .before .before .before .before .before .before .before .before in
+    long-positions (t .args .text .now) (s .loop .i) (c .before .before .before .before .before .before .before .before .before .before .before .until .result) (s .loop .inv .inside) (c .before .before .before .before .before .before .before .before .before .before .before .until .ensures) (c .before .before .before .before .before .before .before .before .before .trim .result .now) (c .before .before .before .before .before .before .before .before .before .trim .ensures) _ _ (c .before .before .before .before .before .before .before .read-line .result) (c .before .before .before .before .before .before .before .read-line .ensures) (t .args .starts .now) (t .args .positions .now) (s .loop .starts) (s .loop .positions) (s .loop .n) (s .loop .inv) _ _ _ (c .before .before .before .before .store-cue .ensures)
 
 returns : tie.Need-returns Inv-loop μ-loop
-returns c = filling-done (c .before .before .before .before .before .before .before .before .before .before .before .before .before .before .before .before .args .text .now) (c .before .before .before .before .before .before .before .before .before .before .before .before .before .loop .i) (c .before .before .before .before .before .before .before .before .before .before .before .until .result) (c .before .before .before .before .before .before .before .before .before .before .before .before .before .loop .inv .inside) (c .before .before .before .before .before .before .before .before .before .before .before .until .ensures) (c .before .before .before .before .before .before .before .before .before .trim .result .now) (c .before .before .before .before .before .before .before .before .before .trim .ensures) _ _ (c .before .before .before .before .before .before .before .read-line .result) (c .before .before .before .before .before .before .before .read-line .ensures) (c .before .before .before .before .before .before .before .before .before .before .before .before .before .before .before .before .args .starts .now) (c .before .before .before .before .before .before .before .before .before .before .before .before .before .before .before .before .args .positions .now) (c .before .before .before .before .before .before .before .before .before .before .before .before .before .loop .starts) (c .before .before .before .before .before .before .before .before .before .before .before .before .before .loop .positions) (c .before .before .before .before .before .before .before .before .before .before .before .before .before .loop .n) (c .before .before .before .before .before .before .before .before .before .before .before .before .before .loop .inv) _ _ _ (c .before .before .before .before .store-cue .ensures) (c .if1 .taken)
+returns c =
+    let s = c .before .before .before .before .before .before .before .before .before .before .before .before .before in
+    let t = c .before .before .before .before .before .before .before .before .before .before .before .before .before .before .before .before in
+    filling-done (t .args .text .now) (s .loop .i) (c .before .before .before .before .before .before .before .before .before .before .before .until .result) (s .loop .inv .inside) (c .before .before .before .before .before .before .before .before .before .before .before .until .ensures) (c .before .before .before .before .before .before .before .before .before .trim .result .now) (c .before .before .before .before .before .before .before .before .before .trim .ensures) _ _ (c .before .before .before .before .before .before .before .read-line .result) (c .before .before .before .before .before .before .before .read-line .ensures) (t .args .starts .now) (t .args .positions .now) (s .loop .starts) (s .loop .positions) (s .loop .n) (s .loop .inv) _ _ _ (c .before .before .before .before .store-cue .ensures) (c .if1 .taken)
 
 add-i : tie.Need-add-i Inv-loop μ-loop
 add-i c = omega (arith, c .if1 .left)
 
 loop-less : tie.Need-loop-less Inv-loop μ-loop
-loop-less c = omega (arith, line-in (c .before .before .before .before .before .before .before .before .before .before .before .before .before .before .before .before .args .text .now) (c .before .before .before .before .before .before .before .before .before .before .before .before .before .loop .i) (c .before .before .before .before .before .before .before .before .before .before .before .until .result) (c .before .before .before .before .before .before .before .before .before .before .before .before .before .loop .inv .inside) (c .before .before .before .before .before .before .before .before .before .before .before .until .ensures))
+loop-less c =
+    let s = c .before .before .before .before .before .before .before .before .before .before .before .before .before in
+    let t = c .before .before .before .before .before .before .before .before .before .before .before in
+    omega (arith, line-in (c .before .before .before .before .before .before .before .before .before .before .before .before .before .before .before .before .args .text .now) (s .loop .i) (t .until .result) (s .loop .inv .inside) (t .until .ensures))
 
 loop-again : tie.Need-loop-again Inv-loop μ-loop
-loop-again c = filling-next (c .before .before .before .before .before .before .before .before .before .before .before .before .before .before .before .before .args .text .now) (c .before .before .before .before .before .before .before .before .before .before .before .before .before .loop .i) (c .before .before .before .before .before .before .before .before .before .before .before .until .result) (c .before .before .before .before .before .before .before .before .before .before .before .before .before .loop .inv .inside) (c .before .before .before .before .before .before .before .before .before .before .before .until .ensures) (c .before .before .before .before .before .before .before .before .before .trim .result .now) (c .before .before .before .before .before .before .before .before .before .trim .ensures) _ _ (c .before .before .before .before .before .before .before .read-line .result) (c .before .before .before .before .before .before .before .read-line .ensures) (c .before .before .before .before .before .before .before .before .before .before .before .before .before .before .before .before .args .starts .now) (c .before .before .before .before .before .before .before .before .before .before .before .before .before .before .before .before .args .positions .now) (c .before .before .before .before .before .before .before .before .before .before .before .before .before .loop .starts) (c .before .before .before .before .before .before .before .before .before .before .before .before .before .loop .positions) (c .before .before .before .before .before .before .before .before .before .before .before .before .before .loop .n) (c .before .before .before .before .before .before .before .before .before .before .before .before .before .loop .inv) _ _ _ (c .before .before .before .before .store-cue .ensures) (c .if1 .left)
+loop-again c =
+    let s = c .before .before .before .before .before .before .before .before .before .before .before .before .before in
+    let t = c .before .before .before .before .before .before .before .before .before .before .before .before .before .before .before .before in
+    filling-next (t .args .text .now) (s .loop .i) (c .before .before .before .before .before .before .before .before .before .before .before .until .result) (s .loop .inv .inside) (c .before .before .before .before .before .before .before .before .before .before .before .until .ensures) (c .before .before .before .before .before .before .before .before .before .trim .result .now) (c .before .before .before .before .before .before .before .before .before .trim .ensures) _ _ (c .before .before .before .before .before .before .before .read-line .result) (c .before .before .before .before .before .before .before .read-line .ensures) (t .args .starts .now) (t .args .positions .now) (s .loop .starts) (s .loop .positions) (s .loop .n) (s .loop .inv) _ _ _ (c .before .before .before .before .store-cue .ensures) (c .if1 .left)
 
 pub fill-spec : {M : Type 1} → statement M
 fill-spec =

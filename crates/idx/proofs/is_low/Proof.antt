@@ -30,7 +30,9 @@ loop-less : tie.Need-loop-less Inv-loop μ-loop
 loop-less c = search needs
 
 loop-again : tie.Need-loop-again Inv-loop μ-loop
-loop-again c = (omega arith, ⊎-elim (λ w. w .1 ∙ low-lost (c .before .before .before .before .args .s .now) (c .before .before .before .loop .low) (c .before .before .before .loop .i) (c .before .before .before .loop .inv .1) (c .before .before .loop-test .taken) (w .0 .taken)) (λ w. w .1 ∙ low-kept (c .before .before .before .before .args .s .now) (c .before .before .before .loop .low) (c .before .before .before .loop .i) (c .before .before .before .loop .inv .1) (c .before .before .loop-test .taken) (w .0 .left)) (c .if1 .came))
+loop-again c =
+    let s = c .before .before .before .before in
+    (omega arith, ⊎-elim (λ w. w .1 ∙ low-lost (s .args .s .now) (c .before .before .before .loop .low) (c .before .before .before .loop .i) (c .before .before .before .loop .inv .1) (c .before .before .loop-test .taken) (w .0 .taken)) (λ w. w .1 ∙ low-kept (s .args .s .now) (c .before .before .before .loop .low) (c .before .before .before .loop .i) (c .before .before .before .loop .inv .1) (c .before .before .loop-test .taken) (w .0 .left)) (c .if1 .came))
 
 returns : tie.Need-returns Inv-loop μ-loop
 returns c = low-done (c .before .before .args .s .now) (c .before .loop .low) (c .before .loop .i) (c .before .loop .inv .1) (c .loop-test .left)

@@ -15,7 +15,9 @@ measure-lines-requires : tie.Need-measure-lines-requires
 measure-lines-requires c κs = search needs
 
 returns-2 : tie.Need-returns-2
-returns-2 c = text-low (c .before .before .before .before .before .args .text .now) (c .before .before .before .is-low .result) (c .before .before .before .is-low .ensures) (c .before .before .before .before .before .args .room) (c .before .before .before .before .before .args .cue) (c .before .before .before .before .before .args .palette .now) (not-false _ (c .before .before .if1 .left)) (c .measure-lines .result) _ (c .measure-lines .ensures)
+returns-2 c =
+    let s = c .before .before .before .before .before in
+    text-low (s .args .text .now) (c .before .before .before .is-low .result) (c .before .before .before .is-low .ensures) (s .args .room) (s .args .cue) (s .args .palette .now) (not-false _ (c .before .before .if1 .left)) (c .measure-lines .result) _ (c .measure-lines .ensures)
 
 pub measure-spec : {M : Type 1} → statement M
 measure-spec =

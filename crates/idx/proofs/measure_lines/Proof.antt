@@ -54,22 +54,34 @@ enum-known-n : tie.Need-enum-known-n Inv-loop μ-loop
 enum-known-n c = search needs
 
 returns : tie.Need-returns Inv-loop μ-loop
-returns c = measuring-refused (c .before .before .before .before .before .before .before .before .before .before .before .before .args .text .now) (c .before .before .before .before .before .before .before .before .before .before .loop .i) (c .before .before .before .before .before .before .before .before .until .result) (c .before .before .before .before .before .before .before .before .before .before .loop .inv .inside) (c .before .before .before .before .before .before .before .before .until .ensures) (c .before .before .before .before .before .before .trim .result .now) (c .before .before .before .before .before .before .trim .ensures) (c .before .before .before .before .before .before .before .before .before .before .before .before .args .room) (c .before .before .before .before .before .before .before .before .before .before .before .before .args .cue) (c .before .before .before .before .before .before .before .before .before .before .before .before .args .palette .now) (c .before .before .before .before .before .before .before .before .before .before .loop .seen) (c .before .before .before .before .before .before .before .before .before .before .loop .palette) (c .before .before .before .before .before .before .before .before .before .before .loop .inv) (c .before .before .before .before .read-line .result) _ (c .before .before .before .before .read-line .ensures) (c .before .before .before .seen-line .result) (c .before .before .before .seen-line .ensures) _ (c .before .n .given .1)
+returns c =
+    let s = c .before .before .before .before .before .before .before .before .before .before in
+    let t = c .before .before .before .before .before .before .before .before .before .before .before .before in
+    measuring-refused (t .args .text .now) (s .loop .i) (c .before .before .before .before .before .before .before .before .until .result) (s .loop .inv .inside) (c .before .before .before .before .before .before .before .before .until .ensures) (c .before .before .before .before .before .before .trim .result .now) (c .before .before .before .before .before .before .trim .ensures) (t .args .room) (t .args .cue) (t .args .palette .now) (s .loop .seen) (s .loop .palette) (s .loop .inv) (c .before .before .before .before .read-line .result) _ (c .before .before .before .before .read-line .ensures) (c .before .before .before .seen-line .result) (c .before .before .before .seen-line .ensures) _ (c .before .n .given .1)
 
 enum-known-s : tie.Need-enum-known-s Inv-loop μ-loop
 enum-known-s c = search needs
 
 returns-2 : tie.Need-returns-2 Inv-loop μ-loop
-returns-2 c = measuring-done (c .before .before .before .before .before .before .before .before .before .before .before .before .before .args .text .now) (c .before .before .before .before .before .before .before .before .before .before .before .loop .i) (c .before .before .before .before .before .before .before .before .before .until .result) (c .before .before .before .before .before .before .before .before .before .before .before .loop .inv .inside) (c .before .before .before .before .before .before .before .before .before .until .ensures) (c .before .before .before .before .before .before .before .trim .result .now) (c .before .before .before .before .before .before .before .trim .ensures) (c .before .before .before .before .before .before .before .before .before .before .before .before .before .args .room) (c .before .before .before .before .before .before .before .before .before .before .before .before .before .args .cue) (c .before .before .before .before .before .before .before .before .before .before .before .before .before .args .palette .now) (c .before .before .before .before .before .before .before .before .before .before .before .loop .seen) (c .before .before .before .before .before .before .before .before .before .before .before .loop .palette) (c .before .before .before .before .before .before .before .before .before .before .before .loop .inv) (c .before .before .before .before .before .read-line .result) _ (c .before .before .before .before .before .read-line .ensures) (c .before .before .before .before .seen-line .result) (c .before .before .before .before .seen-line .ensures) _ (c .before .before .s .given .1) (c .if1 .taken)
+returns-2 c =
+    let s = c .before .before .before .before .before .before .before .before .before .before .before in
+    let t = c .before .before .before .before .before .before .before .before .before .before .before .before .before in
+    measuring-done (t .args .text .now) (s .loop .i) (c .before .before .before .before .before .before .before .before .before .until .result) (s .loop .inv .inside) (c .before .before .before .before .before .before .before .before .before .until .ensures) (c .before .before .before .before .before .before .before .trim .result .now) (c .before .before .before .before .before .before .before .trim .ensures) (t .args .room) (t .args .cue) (t .args .palette .now) (s .loop .seen) (s .loop .palette) (s .loop .inv) (c .before .before .before .before .before .read-line .result) _ (c .before .before .before .before .before .read-line .ensures) (c .before .before .before .before .seen-line .result) (c .before .before .before .before .seen-line .ensures) _ (c .before .before .s .given .1) (c .if1 .taken)
 
 add-i : tie.Need-add-i Inv-loop μ-loop
 add-i c = omega (arith, c .if1 .left)
 
 loop-less : tie.Need-loop-less Inv-loop μ-loop
-loop-less c = omega (arith, line-in (c .before .before .before .before .before .before .before .before .before .before .before .before .before .args .text .now) (c .before .before .before .before .before .before .before .before .before .before .before .loop .i) (c .before .before .before .before .before .before .before .before .before .until .result) (c .before .before .before .before .before .before .before .before .before .before .before .loop .inv .inside) (c .before .before .before .before .before .before .before .before .before .until .ensures))
+loop-less c =
+    let s = c .before .before .before .before .before .before .before .before .before .before .before in
+    let t = c .before .before .before .before .before .before .before .before .before in
+    omega (arith, line-in (c .before .before .before .before .before .before .before .before .before .before .before .before .before .args .text .now) (s .loop .i) (t .until .result) (s .loop .inv .inside) (t .until .ensures))
 
 loop-again : tie.Need-loop-again Inv-loop μ-loop
-loop-again c = measuring-next (c .before .before .before .before .before .before .before .before .before .before .before .before .before .args .text .now) (c .before .before .before .before .before .before .before .before .before .before .before .loop .i) (c .before .before .before .before .before .before .before .before .before .until .result) (c .before .before .before .before .before .before .before .before .before .before .before .loop .inv .inside) (c .before .before .before .before .before .before .before .before .before .until .ensures) (c .before .before .before .before .before .before .before .trim .result .now) (c .before .before .before .before .before .before .before .trim .ensures) (c .before .before .before .before .before .before .before .before .before .before .before .before .before .args .room) (c .before .before .before .before .before .before .before .before .before .before .before .before .before .args .cue) (c .before .before .before .before .before .before .before .before .before .before .before .before .before .args .palette .now) (c .before .before .before .before .before .before .before .before .before .before .before .loop .seen) (c .before .before .before .before .before .before .before .before .before .before .before .loop .palette) (c .before .before .before .before .before .before .before .before .before .before .before .loop .inv) (c .before .before .before .before .before .read-line .result) _ (c .before .before .before .before .before .read-line .ensures) (c .before .before .before .before .seen-line .result) (c .before .before .before .before .seen-line .ensures) _ (c .before .before .s .given .1) (c .if1 .left)
+loop-again c =
+    let s = c .before .before .before .before .before .before .before .before .before .before .before in
+    let t = c .before .before .before .before .before .before .before .before .before .before .before .before .before in
+    measuring-next (t .args .text .now) (s .loop .i) (c .before .before .before .before .before .before .before .before .before .until .result) (s .loop .inv .inside) (c .before .before .before .before .before .before .before .before .before .until .ensures) (c .before .before .before .before .before .before .before .trim .result .now) (c .before .before .before .before .before .before .before .trim .ensures) (t .args .room) (t .args .cue) (t .args .palette .now) (s .loop .seen) (s .loop .palette) (s .loop .inv) (c .before .before .before .before .before .read-line .result) _ (c .before .before .before .before .before .read-line .ensures) (c .before .before .before .before .seen-line .result) (c .before .before .before .before .seen-line .ensures) _ (c .before .before .s .given .1) (c .if1 .left)
 
 pub measure-lines-spec : {M : Type 1} → statement M
 measure-lines-spec =

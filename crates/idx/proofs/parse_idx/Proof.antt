@@ -21,13 +21,19 @@ enum-known-seen : tie.Need-enum-known-seen
 enum-known-seen c = search needs
 
 fill-requires : tie.Need-fill-requires
-fill-requires c κs = idx-is-ok (c .before .before .before .before .before .before .before .before .before .before .args .text .now) (c .before .before .before .before .before .before .before .before .before .before .args .starts .now) (c .before .before .before .before .before .before .before .before .before .before .args .positions .now) (c .before .before .before .before .before .before .before .shorter .result) (c .before .before .before .before .before .before .before .shorter .ensures) (c .before .before .before .before .before .measure .result) _ (c .before .before .before .before .before .measure .ensures) _ (c .before .before .before .seen .given .1)
+fill-requires c κs =
+    let s = c .before .before .before .before .before .before .before .before .before .before in
+    let t = c .before .before .before .before .before .before .before in
+    idx-is-ok (s .args .text .now) (s .args .starts .now) (s .args .positions .now) (t .shorter .result) (t .shorter .ensures) (c .before .before .before .before .before .measure .result) _ (c .before .before .before .before .before .measure .ensures) _ (c .before .before .before .seen .given .1)
 
 accepted-idx-requires : tie.Need-accepted-idx-requires
 accepted-idx-requires c κs = search needs
 
 returns : tie.Need-returns
-returns c = idx-claimed (idx-refused (c .before .before .before .before .before .before .before .before .before .args .text .now) (c .before .before .before .before .before .before .before .before .before .args .starts .now) (c .before .before .before .before .before .before .before .before .before .args .positions .now) (c .before .before .before .before .before .before .shorter .result) (c .before .before .before .before .before .before .shorter .ensures) (c .before .before .before .before .measure .result) _ (c .before .before .before .before .measure .ensures) _ (c .before .before .number .given .1) (c .refused-idx .result) (c .refused-idx .ensures))
+returns c =
+    let s = c .before .before .before .before .before .before .before .before .before in
+    let t = c .before .before .before .before .before .before in
+    idx-claimed (idx-refused (s .args .text .now) (s .args .starts .now) (s .args .positions .now) (t .shorter .result) (t .shorter .ensures) (c .before .before .before .before .measure .result) _ (c .before .before .before .before .measure .ensures) _ (c .before .before .number .given .1) (c .refused-idx .result) (c .refused-idx .ensures))
 
 same-length : tie.Need-same-length
 same-length c = search needs
@@ -36,7 +42,10 @@ same-length-2 : tie.Need-same-length-2
 same-length-2 c = search needs
 
 returns-2 : tie.Need-returns-2
-returns-2 c = idx-claimed (idx-accepted (c .before .before .before .before .before .before .before .before .before .before .before .before .before .before .before .args .text .now) (c .before .before .before .before .before .before .before .before .before .before .before .before .before .before .before .args .starts .now) (c .before .before .before .before .before .before .before .before .before .before .before .before .before .before .before .args .positions .now) (c .before .before .before .before .before .before .before .before .before .before .before .before .shorter .result) (c .before .before .before .before .before .before .before .before .before .before .before .before .shorter .ensures) (c .before .before .before .before .before .before .before .before .before .before .measure .result) _ (c .before .before .before .before .before .before .before .before .before .before .measure .ensures) _ (c .before .before .before .before .before .before .before .before .seen .given .1) (c .accepted-idx .result) (c .accepted-idx .ensures) _ _ (c .before .before .before .before .fill .ensures))
+returns-2 c =
+    let s = c .before .before .before .before .before .before .before .before .before .before .before .before .before .before .before in
+    let t = c .before .before .before .before .before .before .before .before .before .before .before .before in
+    idx-claimed (idx-accepted (s .args .text .now) (s .args .starts .now) (s .args .positions .now) (t .shorter .result) (t .shorter .ensures) (c .before .before .before .before .before .before .before .before .before .before .measure .result) _ (c .before .before .before .before .before .before .before .before .before .before .measure .ensures) _ (c .before .before .before .before .before .before .before .before .seen .given .1) (c .accepted-idx .result) (c .accepted-idx .ensures) _ _ (c .before .before .before .before .fill .ensures))
 
 pub parse-idx-spec : {M : Type 1} → statement M
 parse-idx-spec =

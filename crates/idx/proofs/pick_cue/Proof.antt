@@ -22,10 +22,16 @@ picked-cue-requires : tie.Need-picked-cue-requires
 picked-cue-requires c κs = search needs
 
 returns : tie.Need-returns
-returns c = cue-claimed _ _ (cue-refused (c .before .before .before .before .before .before .before .args .text .now) (c .before .before .before .before .before .before .before .args .cue) 18446744073709551615 (omega (arith, c .before .before .before .before .before .before .before .good .0 .1)) (c .before .before .before .before .measure .result) _ (c .before .before .before .before .measure .ensures) _ (c .before .before .number .given .1) (c .refused-cue .result) (c .refused-cue .ensures))
+returns c =
+    let s = c .before .before .before .before .before .before .before in
+    let t = c .before .before .before .before in
+    cue-claimed _ _ (cue-refused (s .args .text .now) (s .args .cue) 18446744073709551615 (omega (arith, s .good .0 .1)) (t .measure .result) _ (t .measure .ensures) _ (c .before .before .number .given .1) (c .refused-cue .result) (c .refused-cue .ensures))
 
 returns-2 : tie.Need-returns-2
-returns-2 c = cue-claimed _ _ (cue-picked (c .before .before .before .before .before .before .before .args .text .now) (c .before .before .before .before .before .before .before .args .cue) 18446744073709551615 (omega (arith, c .before .before .before .before .before .before .before .good .0 .1)) (c .before .before .before .before .measure .result) _ (c .before .before .before .before .measure .ensures) _ (c .before .before .seen .given .1) (c .picked-cue .result) (c .picked-cue .ensures))
+returns-2 c =
+    let s = c .before .before .before .before .before .before .before in
+    let t = c .before .before .before .before in
+    cue-claimed _ _ (cue-picked (s .args .text .now) (s .args .cue) 18446744073709551615 (omega (arith, s .good .0 .1)) (t .measure .result) _ (t .measure .ensures) _ (c .before .before .seen .given .1) (c .picked-cue .result) (c .picked-cue .ensures))
 
 pub pick-cue-spec : {M : Type 1} → statement M
 pick-cue-spec =

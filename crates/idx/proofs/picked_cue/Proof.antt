@@ -25,7 +25,9 @@ duration-of-requires : tie.Need-duration-of-requires
 duration-of-requires c κs = search needs
 
 returns-3 : tie.Need-returns-3
-returns-3 c = λ ls e f. pick-next (c .before .before .before .before .before .args .cue) ls (c .before .before .before .before .before .args .seen) e (c .before .before .before .before .before .args .palette) f (c .before .before .before .before .if1 .left) (c .before .before .before .if2 .left) _ (toZ-ofZ {w = w64} (record { sfits = c .before .before .struct-told2 .given .1 .1 .1 .1 .0 .1 })) (c .duration-of .result) (c .duration-of .ensures ∙ ap₂ (λ (x y : ℤ). clip (x -ℤ y)) (toZ-ofZ {w = w64} {z = c .before .before .before .before .before .args .seen .next} (record { sfits = c .before .struct-told3 .given .1 .1 .1 .1 .1 .1 .0 .1 })) (toZ-ofZ {w = w64} {z = c .before .before .before .before .before .args .seen .start} (record { sfits = c .before .before .struct-told2 .given .1 .1 .1 .1 .0 .1 })))
+returns-3 c =
+    let s = c .before .before .before .before .before in
+    λ ls e f. pick-next (s .args .cue) ls (s .args .seen) e (s .args .palette) f (c .before .before .before .before .if1 .left) (c .before .before .before .if2 .left) _ (toZ-ofZ {w = w64} (record { sfits = c .before .before .struct-told2 .given .1 .1 .1 .1 .0 .1 })) (c .duration-of .result) (c .duration-of .ensures ∙ ap₂ (λ (x y : ℤ). clip (x -ℤ y)) (toZ-ofZ {w = w64} {z = s .args .seen .next} (record { sfits = c .before .struct-told3 .given .1 .1 .1 .1 .1 .1 .0 .1 })) (toZ-ofZ {w = w64} {z = s .args .seen .start} (record { sfits = c .before .before .struct-told2 .given .1 .1 .1 .1 .0 .1 })))
 
 pub picked-cue-spec : {M : Type 1} → statement M
 picked-cue-spec =

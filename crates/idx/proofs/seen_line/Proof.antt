@@ -29,7 +29,9 @@ enum-known-line-4 : tie.Need-enum-known-line-4
 enum-known-line-4 c = search needs
 
 returns : tie.Need-returns
-returns c = saw-full (c .before .before .before .before .args .cue) (c .before .before .before .before .args .room) (c .before .before .before .before .args .seen) (c .before .before .before .before .args .line) _ _ (c .before .before .line4 .given .1) (c .if1 .taken)
+returns c =
+    let s = c .before .before .before .before in
+    saw-full (s .args .cue) (s .args .room) (s .args .seen) (s .args .line) _ _ (c .before .before .line4 .given .1) (c .if1 .taken)
 
 with-cue-requires : tie.Need-with-cue-requires
 with-cue-requires c κs = omega (arith, c .if1 .left, c .before .before .before .before .fits .room .fits)
@@ -41,13 +43,19 @@ returns-3 : tie.Need-returns-3
 returns-3 c = saw-nothing (c .before .before .args .cue) (c .before .before .args .room) (c .before .before .args .seen) (c .before .before .args .line) (c .enum-told .given .1)
 
 returns-4 : tie.Need-returns-4
-returns-4 c = saw-size (c .before .before .before .before .args .cue) (c .before .before .before .before .args .room) (c .before .before .before .before .args .seen) (c .before .before .before .before .args .line) _ _ (c .before .before .line2 .given .1) (c .with-size .result) (c .with-size .ensures)
+returns-4 c =
+    let s = c .before .before .before .before in
+    saw-size (s .args .cue) (s .args .room) (s .args .seen) (s .args .line) _ _ (c .before .before .line2 .given .1) (c .with-size .result) (c .with-size .ensures)
 
 returns-5 : tie.Need-returns-5
-returns-5 c = saw-palette (c .before .before .before .before .args .cue) (c .before .before .before .before .args .room) (c .before .before .before .before .args .seen) (c .before .before .before .before .args .line) _ (c .before .before .line3 .given .1) (c .with-palette .result) (c .with-palette .ensures)
+returns-5 c =
+    let s = c .before .before .before .before in
+    saw-palette (s .args .cue) (s .args .room) (s .args .seen) (s .args .line) _ (c .before .before .line3 .given .1) (c .with-palette .result) (c .with-palette .ensures)
 
 returns-6 : tie.Need-returns-6
-returns-6 c = saw-cue (c .before .before .before .before .before .args .cue) (c .before .before .before .before .before .args .room) (c .before .before .before .before .before .args .seen) (c .before .before .before .before .before .args .line) _ _ _ (c .before .before .before .line4 .given .1) (toZ-ofZ {w = w64} (record { sfits = c .before .before .known-told4 .given .0 .1 })) (c .before .if1 .left) (c .with-cue .result) (c .with-cue .ensures)
+returns-6 c =
+    let s = c .before .before .before .before .before in
+    saw-cue (s .args .cue) (s .args .room) (s .args .seen) (s .args .line) _ _ _ (c .before .before .before .line4 .given .1) (toZ-ofZ {w = w64} (record { sfits = c .before .before .known-told4 .given .0 .1 })) (c .before .if1 .left) (c .with-cue .result) (c .with-cue .ensures)
 
 pub seen-line-spec : {M : Type 1} → statement M
 seen-line-spec =

@@ -25,25 +25,37 @@ enum-known-count : tie.Need-enum-known-count
 enum-known-count c = search needs
 
 returns : tie.Need-returns
-returns c = count-none (c .before .before .before .before .before .before .before .args .s .now) (c .before .before .before .before .before .before .before .args .i) (922337203685477580 * 10 + c .before .before .before .before .before .before .before .args .last) (c .before .before .before .before .before .before .before .pre .0) _ (c .before .before .before .before .decimal-run .ensures) _ _ (c .before .before .count .given .1) (c .if1 .taken)
+returns c =
+    let s = c .before .before .before .before .before .before .before in
+    count-none (s .args .s .now) (s .args .i) (922337203685477580 * 10 + s .args .last) (s .pre .0) _ (c .before .before .before .before .decimal-run .ensures) _ _ (c .before .before .count .given .1) (c .if1 .taken)
 
 add-e : tie.Need-add-e
-add-e c = omega (arith, run-inside (c .before .before .before .before .before .before .before .args .s .now) (c .before .before .before .before .before .before .before .args .i) (922337203685477580 * 10 + c .before .before .before .before .before .before .before .args .last) (c .before .before .before .before .before .before .before .pre .0) _ (c .before .before .before .before .decimal-run .ensures) _ _ (c .before .before .count .given .1))
+add-e c =
+    let s = c .before .before .before .before .before .before .before in
+    omega (arith, run-inside (s .args .s .now) (s .args .i) (922337203685477580 * 10 + s .args .last) (s .pre .0) _ (c .before .before .before .before .decimal-run .ensures) _ _ (c .before .before .count .given .1))
 
 returns-2 : tie.Need-returns-2
-returns-2 c = count-end (c .before .before .before .before .before .before .before .before .args .s .now) (c .before .before .before .before .before .before .before .before .args .i) (922337203685477580 * 10 + c .before .before .before .before .before .before .before .before .args .last) (c .before .before .before .before .before .before .before .before .pre .0) _ (c .before .before .before .before .before .decimal-run .ensures) _ _ (c .before .before .before .count .given .1) (c .before .if1 .left) (c .if2 .taken)
+returns-2 c =
+    let s = c .before .before .before .before .before .before .before .before in
+    count-end (s .args .s .now) (s .args .i) (922337203685477580 * 10 + s .args .last) (s .pre .0) _ (c .before .before .before .before .before .decimal-run .ensures) _ _ (c .before .before .before .count .given .1) (c .before .if1 .left) (c .if2 .taken)
 
 shared-slice-read-if3 : tie.Need-shared-slice-read-if3
 shared-slice-read-if3 c = search needs
 
 returns-3 : tie.Need-returns-3
-returns-3 c = count-other (c .before .before .before .before .before .before .before .before .before .before .args .s .now) (c .before .before .before .before .before .before .before .before .before .before .args .i) (922337203685477580 * 10 + c .before .before .before .before .before .before .before .before .before .before .args .last) (c .before .before .before .before .before .before .before .before .before .before .pre .0) _ (c .before .before .before .before .before .before .before .decimal-run .ensures) _ _ (c .before .before .before .before .before .count .given .1) (c .before .before .if2 .left) (c .if3 .taken)
+returns-3 c =
+    let s = c .before .before .before .before .before .before .before .before .before .before in
+    count-other (s .args .s .now) (s .args .i) (922337203685477580 * 10 + s .args .last) (s .pre .0) _ (c .before .before .before .before .before .before .before .decimal-run .ensures) _ _ (c .before .before .before .before .before .count .given .1) (c .before .before .if2 .left) (c .if3 .taken)
 
 returns-4 : tie.Need-returns-4
-returns-4 c = count-over (c .before .before .before .before .before .args .s .now) (c .before .before .before .before .before .args .i) (922337203685477580 * 10 + c .before .before .before .before .before .args .last) (c .before .before .before .before .before .pre .0) _ (c .before .before .decimal-run .ensures) (c .enum-told .given .1)
+returns-4 c =
+    let s = c .before .before .before .before .before in
+    count-over (s .args .s .now) (s .args .i) (922337203685477580 * 10 + s .args .last) (s .pre .0) _ (c .before .before .decimal-run .ensures) (c .enum-told .given .1)
 
 returns-5 : tie.Need-returns-5
-returns-5 c = count-colon (c .before .before .before .before .before .before .before .before .before .before .args .s .now) (c .before .before .before .before .before .before .before .before .before .before .args .i) (922337203685477580 * 10 + c .before .before .before .before .before .before .before .before .before .before .args .last) (c .before .before .before .before .before .before .before .before .before .before .pre .0) _ (c .before .before .before .before .before .before .before .decimal-run .ensures) _ _ (c .before .before .before .before .before .count .given .1) (c .before .before .before .if1 .left) (c .if3 .left)
+returns-5 c =
+    let s = c .before .before .before .before .before .before .before .before .before .before in
+    count-colon (s .args .s .now) (s .args .i) (922337203685477580 * 10 + s .args .last) (s .pre .0) _ (c .before .before .before .before .before .before .before .decimal-run .ensures) _ _ (c .before .before .before .before .before .count .given .1) (c .before .before .before .if1 .left) (c .if3 .left)
 
 pub count-at-spec : {M : Type 1} → statement M
 count-at-spec =

@@ -31,7 +31,9 @@ enum-told : tie.Need-enum-told
 enum-told c = search needs
 
 returns-4 : tie.Need-returns-4
-returns-4 c = plain-bad (c .before .before .before .before .before .before .before .before .args .s .now) (c .before .before .before .before .before .before .before .before .args .i) (omega arith) (λ e. omega (arith, c .before .before .before .if3 .left)) (λ e. omega (arith, c .before .before .before .if3 .left)) (c .before .before .count-at .result) _ (c .before .before .count-at .ensures) refl (c .enum-told .given .1)
+returns-4 c =
+    let s = c .before .before .before .before .before .before .before .before in
+    plain-bad (s .args .s .now) (s .args .i) (omega arith) (λ e. omega (arith, c .before .before .before .if3 .left)) (λ e. omega (arith, c .before .before .before .if3 .left)) (c .before .before .count-at .result) _ (c .before .before .count-at .ensures) refl (c .enum-told .given .1)
 
 cast-t10 : tie.Need-cast-t10
 cast-t10 c = omega (arith, counted-most (c .before .before .before .before .before .before .before .before .before .args .s .now) _ _ (c .before .before .before .count-at .result) (c .before .before .before .count-at .ensures) _ _ (c .before .value .given .1))
@@ -40,7 +42,10 @@ add-t5 : tie.Need-add-t5
 add-t5 c = omega (arith, counted-in (c .before .before .before .before .before .before .before .before .before .args .s .now) _ _ (c .before .before .before .count-at .result) (c .before .before .before .count-at .ensures) _ _ (c .before .value .given .1) (omega arith))
 
 returns-5 : tie.Need-returns-5
-returns-5 c = plain-good (c .before .before .before .before .before .before .before .before .before .args .s .now) (c .before .before .before .before .before .before .before .before .before .args .i) (omega arith) (λ e. omega (arith, c .before .before .before .before .if3 .left)) (λ e. omega (arith, c .before .before .before .before .if3 .left)) (c .before .before .before .count-at .result) _ (c .before .before .before .count-at .ensures) refl _ _ (c .before .value .given .1)
+returns-5 c =
+    let s = c .before .before .before .before .before .before .before .before .before in
+    let t = c .before .before .before .before in
+    plain-good (s .args .s .now) (s .args .i) (omega arith) (λ e. omega (arith, t .if3 .left)) (λ e. omega (arith, t .if3 .left)) (c .before .before .before .count-at .result) _ (c .before .before .before .count-at .ensures) refl _ _ (c .before .value .given .1)
 
 pub field-at-spec : {M : Type 1} → statement M
 field-at-spec =

@@ -45,22 +45,34 @@ blanks-requires : tie.Need-blanks-requires Inv-loop μ-loop
 blanks-requires c κs = search needs
 
 add-a : tie.Need-add-a Inv-loop μ-loop
-add-a c = omega (arith, end-in (c .before .before .before .before .before .before .args .s .now) (c .before .before .before .before .loop .i) (c .before .before .until .result) (c .before .before .before .before .loop .inv .inside) (c .before .before .until .ensures), blanks-in (c .before .before .before .before .before .before .args .s .now) (c .before .before .before .before .loop .i) (c .before .before .until .result) (c .before .before .before .before .loop .inv .inside) (c .before .before .until .ensures) (c .blanks .result) (c .blanks .ensures))
+add-a c =
+    let s = c .before .before .before .before in
+    let t = c .before .before .before .before .before .before in
+    omega (arith, end-in (t .args .s .now) (s .loop .i) (c .before .before .until .result) (s .loop .inv .inside) (c .before .before .until .ensures), blanks-in (t .args .s .now) (s .loop .i) (c .before .before .until .result) (s .loop .inv .inside) (c .before .before .until .ensures) (c .blanks .result) (c .blanks .ensures))
 
 sub-kept : tie.Need-sub-kept Inv-loop μ-loop
-sub-kept c = blanks-in (c .before .before .before .before .before .before .args .s .now) (c .before .before .before .before .loop .i) (c .before .before .until .result) (c .before .before .before .before .loop .inv .inside) (c .before .before .until .ensures) (c .blanks .result) (c .blanks .ensures)
+sub-kept c =
+    let s = c .before .before .before .before in
+    blanks-in (c .before .before .before .before .before .before .args .s .now) (s .loop .i) (c .before .before .until .result) (s .loop .inv .inside) (c .before .before .until .ensures) (c .blanks .result) (c .blanks .ensures)
 
 part-kept-start : tie.Need-part-kept-start Inv-loop μ-loop
-part-kept-start c = blanks-in (c .before .before .before .before .before .before .args .s .now) (c .before .before .before .before .loop .i) (c .before .before .until .result) (c .before .before .before .before .loop .inv .inside) (c .before .before .until .ensures) (c .blanks .result) (c .blanks .ensures)
+part-kept-start c =
+    let s = c .before .before .before .before in
+    blanks-in (c .before .before .before .before .before .before .args .s .now) (s .loop .i) (c .before .before .until .result) (s .loop .inv .inside) (c .before .before .until .ensures) (c .blanks .result) (c .blanks .ensures)
 
 part-kept-end : tie.Need-part-kept-end Inv-loop μ-loop
-part-kept-end c = end-in (c .before .before .before .before .before .before .args .s .now) (c .before .before .before .before .loop .i) (c .before .before .until .result) (c .before .before .before .before .loop .inv .inside) (c .before .before .until .ensures)
+part-kept-end c =
+    let s = c .before .before .before .before in
+    end-in (c .before .before .before .before .before .before .args .s .now) (s .loop .i) (c .before .before .until .result) (s .loop .inv .inside) (c .before .before .until .ensures)
 
 kept-requires : tie.Need-kept-requires Inv-loop μ-loop
 kept-requires c κs = search needs
 
 add-b : tie.Need-add-b Inv-loop μ-loop
-add-b c = omega (arith, end-in (c .before .before .before .before .before .before .before .before .args .s .now) (c .before .before .before .before .before .before .loop .i) (c .before .before .before .before .until .result) (c .before .before .before .before .before .before .loop .inv .inside) (c .before .before .before .before .until .ensures), kept-in (c .before .before .before .before .before .before .before .before .args .s .now) (c .before .before .before .before .before .before .loop .i) (c .before .before .before .before .until .result) (c .before .before .before .before .before .before .loop .inv .inside) (c .before .before .before .before .until .ensures) (c .before .before .blanks .result) (c .before .before .blanks .ensures) (c .kept .result) (c .kept .ensures))
+add-b c =
+    let s = c .before .before .before .before .before .before in
+    let t = c .before .before .before .before .before .before .before .before in
+    omega (arith, end-in (t .args .s .now) (s .loop .i) (c .before .before .before .before .until .result) (s .loop .inv .inside) (c .before .before .before .before .until .ensures), kept-in (t .args .s .now) (s .loop .i) (c .before .before .before .before .until .result) (s .loop .inv .inside) (c .before .before .before .before .until .ensures) (c .before .before .blanks .result) (c .before .before .blanks .ensures) (c .kept .result) (c .kept .ensures))
 
 sub-is-filepos : tie.Need-sub-is-filepos Inv-loop μ-loop
 sub-is-filepos c = omega arith
@@ -69,7 +81,10 @@ part-is-filepos-start : tie.Need-part-is-filepos-start Inv-loop μ-loop
 part-is-filepos-start c = omega arith
 
 part-is-filepos-end : tie.Need-part-is-filepos-end Inv-loop μ-loop
-part-is-filepos-end c = omega (arith, end-in (c .before .before .before .before .before .before .before .before .args .s .now) (c .before .before .before .before .before .before .loop .i) (c .before .before .before .before .until .result) (c .before .before .before .before .before .before .loop .inv .inside) (c .before .before .before .before .until .ensures), kept-in (c .before .before .before .before .before .before .before .before .args .s .now) (c .before .before .before .before .before .before .loop .i) (c .before .before .before .before .until .result) (c .before .before .before .before .before .before .loop .inv .inside) (c .before .before .before .before .until .ensures) (c .before .before .blanks .result) (c .before .before .blanks .ensures) (c .kept .result) (c .kept .ensures))
+part-is-filepos-end c =
+    let s = c .before .before .before .before .before .before in
+    let t = c .before .before .before .before .before .before .before .before in
+    omega (arith, end-in (t .args .s .now) (s .loop .i) (c .before .before .before .before .until .result) (s .loop .inv .inside) (c .before .before .before .before .until .ensures), kept-in (t .args .s .now) (s .loop .i) (c .before .before .before .before .until .result) (s .loop .inv .inside) (c .before .before .before .before .until .ensures) (c .before .before .blanks .result) (c .before .before .blanks .ensures) (c .kept .result) (c .kept .ensures))
 
 is-filepos-requires : tie.Need-is-filepos-requires Inv-loop μ-loop
 is-filepos-requires c κs = search needs
@@ -78,16 +93,25 @@ noted-requires : tie.Need-noted-requires Inv-loop μ-loop
 noted-requires c κs = search needs
 
 returns : tie.Need-returns Inv-loop μ-loop
-returns c = finding-done (c .before .before .before .before .before .before .before .before .before .before .before .before .args .s .now) (c .before .before .before .before .before .before .before .before .before .before .loop .i) (c .before .before .before .before .before .before .before .before .until .result) (c .before .before .before .before .before .before .before .before .before .before .loop .inv .inside) (c .before .before .before .before .before .before .before .before .until .ensures) (c .before .before .before .before .before .before .blanks .result) (c .before .before .before .before .before .before .blanks .ensures) (c .before .before .before .before .kept .result) (c .before .before .before .before .kept .ensures) (c .before .before .is-filepos .result) (c .before .before .is-filepos .ensures) (c .before .before .before .before .before .before .before .before .before .before .loop .f) (c .before .before .before .before .before .before .before .before .before .before .loop .inv) (c .before .noted .result) (c .before .noted .ensures) (c .if1 .taken)
+returns c =
+    let s = c .before .before .before .before .before .before .before .before .before .before in
+    let t = c .before .before .before .before .before .before .before .before in
+    finding-done (c .before .before .before .before .before .before .before .before .before .before .before .before .args .s .now) (s .loop .i) (t .until .result) (s .loop .inv .inside) (t .until .ensures) (c .before .before .before .before .before .before .blanks .result) (c .before .before .before .before .before .before .blanks .ensures) (c .before .before .before .before .kept .result) (c .before .before .before .before .kept .ensures) (c .before .before .is-filepos .result) (c .before .before .is-filepos .ensures) (s .loop .f) (s .loop .inv) (c .before .noted .result) (c .before .noted .ensures) (c .if1 .taken)
 
 add-i : tie.Need-add-i Inv-loop μ-loop
 add-i c = omega (arith, c .if1 .left)
 
 loop-less : tie.Need-loop-less Inv-loop μ-loop
-loop-less c = omega (arith, end-in (c .before .before .before .before .before .before .before .before .before .before .before .before .args .s .now) (c .before .before .before .before .before .before .before .before .before .before .loop .i) (c .before .before .before .before .before .before .before .before .until .result) (c .before .before .before .before .before .before .before .before .before .before .loop .inv .inside) (c .before .before .before .before .before .before .before .before .until .ensures))
+loop-less c =
+    let s = c .before .before .before .before .before .before .before .before .before .before in
+    let t = c .before .before .before .before .before .before .before .before in
+    omega (arith, end-in (c .before .before .before .before .before .before .before .before .before .before .before .before .args .s .now) (s .loop .i) (t .until .result) (s .loop .inv .inside) (t .until .ensures))
 
 loop-again : tie.Need-loop-again Inv-loop μ-loop
-loop-again c = finding-next (c .before .before .before .before .before .before .before .before .before .before .before .before .args .s .now) (c .before .before .before .before .before .before .before .before .before .before .loop .i) (c .before .before .before .before .before .before .before .before .until .result) (c .before .before .before .before .before .before .before .before .before .before .loop .inv .inside) (c .before .before .before .before .before .before .before .before .until .ensures) (c .before .before .before .before .before .before .blanks .result) (c .before .before .before .before .before .before .blanks .ensures) (c .before .before .before .before .kept .result) (c .before .before .before .before .kept .ensures) (c .before .before .is-filepos .result) (c .before .before .is-filepos .ensures) (c .before .before .before .before .before .before .before .before .before .before .loop .f) (c .before .before .before .before .before .before .before .before .before .before .loop .inv) (c .before .noted .result) (c .before .noted .ensures) (c .if1 .left)
+loop-again c =
+    let s = c .before .before .before .before .before .before .before .before .before .before in
+    let t = c .before .before .before .before .before .before .before .before in
+    finding-next (c .before .before .before .before .before .before .before .before .before .before .before .before .args .s .now) (s .loop .i) (t .until .result) (s .loop .inv .inside) (t .until .ensures) (c .before .before .before .before .before .before .blanks .result) (c .before .before .before .before .before .before .blanks .ensures) (c .before .before .before .before .kept .result) (c .before .before .before .before .kept .ensures) (c .before .before .is-filepos .result) (c .before .before .is-filepos .ensures) (s .loop .f) (s .loop .inv) (c .before .noted .result) (c .before .noted .ensures) (c .if1 .left)
 
 pub find-parts-spec : {M : Type 1} → statement M
 find-parts-spec =

@@ -29,7 +29,9 @@ shared-slice-read-result c = omega arith
 
 returns-4 : tie.Need-returns-4
 unfolding lowest
-returns-4 c = stamp-yes (c .before .before .before .before .before .before .before .args .l .now) (c .before .before .before .before .before .if1 .left) (λ i. omega (arith, c .before .before .before .before .before .before .shared-slice-known .given i)) (c .before .before .before .before .eight-at .result) (c .before .before .before .before .eight-at .ensures) _ refl (c .before .before .before .if2 .left) (c .before .if3 .left)
+returns-4 c =
+    let s = c .before .before .before .before in
+    stamp-yes (c .before .before .before .before .before .before .before .args .l .now) (c .before .before .before .before .before .if1 .left) (λ i. omega (arith, c .before .before .before .before .before .before .shared-slice-known .given i)) (s .eight-at .result) (s .eight-at .ensures) _ refl (c .before .before .before .if2 .left) (c .before .if3 .left)
 
 pub is-timestamp-spec : {M : Type 1} → statement M
 is-timestamp-spec =

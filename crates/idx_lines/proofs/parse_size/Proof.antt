@@ -45,7 +45,10 @@ enum-told : tie.Need-enum-told
 enum-told c = search needs
 
 returns-2 : tie.Need-returns-2
-returns-2 c = λ i at. size-bad-width (c .before .before .before .before .before .before .before .before .before .before .args .s .now) (c .before .before .before .before .before .before .before .before .until .result) (c .before .before .before .before .before .before .before .before .until .ensures) i at (c .before .before .before .before .before .before .before .if1 .left) (c .before .before .before .before .before .trim .result .now) (c .before .before .before .trim2 .result .now) (c .before .before .before .before .before .trim .ensures) (c .before .before .before .trim2 .ensures) (c .before .before .parse-decimal .result) (c .before .before .parse-decimal .ensures) (c .enum-told .given .1)
+returns-2 c =
+    let s = c .before .before .before .before .before .before .before .before in
+    let t = c .before .before .before .before .before in
+    λ i at. size-bad-width (c .before .before .before .before .before .before .before .before .before .before .args .s .now) (s .until .result) (s .until .ensures) i at (c .before .before .before .before .before .before .before .if1 .left) (t .trim .result .now) (c .before .before .before .trim2 .result .now) (t .trim .ensures) (c .before .before .before .trim2 .ensures) (c .before .before .parse-decimal .result) (c .before .before .parse-decimal .ensures) (c .enum-told .given .1)
 
 parse-decimal-requires-2 : tie.Need-parse-decimal-requires-2
 parse-decimal-requires-2 c κs = record { some-base = omega arith; less = omega arith; held = omega arith }
@@ -57,16 +60,24 @@ enum-told-2 : tie.Need-enum-told-2
 enum-told-2 c = search needs
 
 returns-3 : tie.Need-returns-3
-returns-3 c = λ i at. size-bad-height (c .before .before .before .before .before .before .before .before .before .before .before .before .before .before .args .s .now) (c .before .before .before .before .before .before .before .before .before .before .before .before .until .result) (c .before .before .before .before .before .before .before .before .before .before .before .before .until .ensures) i at (c .before .before .before .before .before .before .before .before .before .before .before .if1 .left) (c .before .before .before .before .before .before .before .before .before .trim .result .now) (c .before .before .before .before .before .before .before .trim2 .result .now) (c .before .before .before .before .before .before .before .before .before .trim .ensures) (c .before .before .before .before .before .before .before .trim2 .ensures) (c .before .before .before .before .before .before .parse-decimal .result) (c .before .before .before .before .before .before .parse-decimal .ensures) _ 0 (c .before .before .before .before .w .given .1) (c .before .before .parse-decimal2 .result) (c .before .before .parse-decimal2 .ensures) (c .enum-told2 .given .1)
+returns-3 c =
+    let s = c .before .before .before .before .before .before .before .before .before .before .before .before in
+    let t = c .before .before .before .before .before .before .before .before .before in
+    λ i at. size-bad-height (c .before .before .before .before .before .before .before .before .before .before .before .before .before .before .args .s .now) (s .until .result) (s .until .ensures) i at (c .before .before .before .before .before .before .before .before .before .before .before .if1 .left) (t .trim .result .now) (c .before .before .before .before .before .before .before .trim2 .result .now) (t .trim .ensures) (c .before .before .before .before .before .before .before .trim2 .ensures) (c .before .before .before .before .before .before .parse-decimal .result) (c .before .before .before .before .before .before .parse-decimal .ensures) _ 0 (c .before .before .before .before .w .given .1) (c .before .before .parse-decimal2 .result) (c .before .before .parse-decimal2 .ensures) (c .enum-told2 .given .1)
 
 cast-t17 : tie.Need-cast-t17
-cast-t17 c = omega (arith, value-le 10 65535 (c .before .before .before .before .before .before .before .before .before .before .trim .result .now) (c .before .before .before .before .before .before .before .parse-decimal .result) _ (c .before .before .before .before .before .before .before .parse-decimal .ensures) (c .before .before .before .before .before .w .given .1))
+cast-t17 c =
+    let s = c .before .before .before .before .before .before .before in
+    omega (arith, value-le 10 65535 (c .before .before .before .before .before .before .before .before .before .before .trim .result .now) (s .parse-decimal .result) _ (s .parse-decimal .ensures) (c .before .before .before .before .before .w .given .1))
 
 cast-t18 : tie.Need-cast-t18
 cast-t18 c = omega (arith, value-le 10 65535 (c .before .before .before .before .before .before .before .before .trim2 .result .now) (c .before .before .before .parse-decimal2 .result) _ (c .before .before .before .parse-decimal2 .ensures) (c .before .h .given .1))
 
 returns-4 : tie.Need-returns-4
-returns-4 c = λ i at. size-good (c .before .before .before .before .before .before .before .before .before .before .before .before .before .before .before .args .s .now) (c .before .before .before .before .before .before .before .before .before .before .before .before .before .until .result) (c .before .before .before .before .before .before .before .before .before .before .before .before .before .until .ensures) i at (c .before .before .before .before .before .before .before .before .before .before .before .before .if1 .left) (c .before .before .before .before .before .before .before .before .before .before .trim .result .now) (c .before .before .before .before .before .before .before .before .trim2 .result .now) (c .before .before .before .before .before .before .before .before .before .before .trim .ensures) (c .before .before .before .before .before .before .before .before .trim2 .ensures) (c .before .before .before .before .before .before .before .parse-decimal .result) (c .before .before .before .before .before .before .before .parse-decimal .ensures) _ _ (c .before .before .before .before .before .w .given .1) (c .before .before .before .parse-decimal2 .result) (c .before .before .before .parse-decimal2 .ensures) (c .before .h .given .1)
+returns-4 c =
+    let s = c .before .before .before .before .before .before .before .before .before .before .before .before .before in
+    let t = c .before .before .before .before .before .before .before .before .before .before in
+    λ i at. size-good (c .before .before .before .before .before .before .before .before .before .before .before .before .before .before .before .args .s .now) (s .until .result) (s .until .ensures) i at (c .before .before .before .before .before .before .before .before .before .before .before .before .if1 .left) (t .trim .result .now) (c .before .before .before .before .before .before .before .before .trim2 .result .now) (t .trim .ensures) (c .before .before .before .before .before .before .before .before .trim2 .ensures) (c .before .before .before .before .before .before .before .parse-decimal .result) (c .before .before .before .before .before .before .before .parse-decimal .ensures) _ _ (c .before .before .before .before .before .w .given .1) (c .before .before .before .parse-decimal2 .result) (c .before .before .before .parse-decimal2 .ensures) (c .before .h .given .1)
 
 pub parse-size-spec : {M : Type 1} → statement M
 parse-size-spec =

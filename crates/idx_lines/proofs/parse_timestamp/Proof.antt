@@ -13,7 +13,9 @@ returns : tie.Need-returns
 returns c = λ i at. stamp-no-time (c .before .before .before .before .args .s .now) (c .before .before .find-parts .result) (c .before .before .find-parts .ensures) i at (not-true _ (c .if1 .taken))
 
 returns-2 : tie.Need-returns-2
-returns-2 c = λ i at. stamp-no-position (c .before .before .before .before .before .before .args .s .now) (c .before .before .before .before .find-parts .result) (c .before .before .before .before .find-parts .ensures) i at (not-false _ (c .before .before .if1 .left)) (not-true _ (c .if2 .taken))
+returns-2 c =
+    let s = c .before .before .before .before in
+    λ i at. stamp-no-position (c .before .before .before .before .before .before .args .s .now) (s .find-parts .result) (s .find-parts .ensures) i at (not-false _ (c .before .before .if1 .left)) (not-true _ (c .if2 .taken))
 
 sub-parse-time : tie.Need-sub-parse-time
 sub-parse-time c = c .before .before .before .before .find-parts .ensures .time-in .0
@@ -46,16 +48,25 @@ part-with-position-end : tie.Need-part-with-position-end
 part-with-position-end c = c .before .before .before .before .before .before .before .before .before .find-parts .ensures .position-in .1
 
 with-position-requires : tie.Need-with-position-requires
-with-position-requires c κs = long-place (c .before .before .before .before .before .before .before .before .before .before .before .before .args .s .now) (c .before .before .before .before .before .before .before .before .before .before .find-parts .result) (c .before .before .before .before .before .before .before .before .before .before .find-parts .ensures) (record { place = 0; bytes = [] }) 0 (not-false _ (c .before .before .before .before .before .before .before .before .if1 .left)) (not-false _ (c .before .before .before .before .before .before .if2 .left))
+with-position-requires c κs =
+    let s = c .before .before .before .before .before .before .before .before .before .before in
+    long-place (c .before .before .before .before .before .before .before .before .before .before .before .before .args .s .now) (s .find-parts .result) (s .find-parts .ensures) (record { place = 0; bytes = [] }) 0 (not-false _ (c .before .before .before .before .before .before .before .before .if1 .left)) (not-false _ (c .before .before .before .before .before .before .if2 .left))
 
 returns-3 : tie.Need-returns-3
-returns-3 c = λ i at. stamp-bad-time (c .before .before .before .before .before .before .before .before .before .before .args .s .now) (c .before .before .before .before .before .before .before .before .find-parts .result) (c .before .before .before .before .before .before .before .before .find-parts .ensures) i at (not-false _ (c .before .before .before .before .before .before .if1 .left)) (not-false _ (c .before .before .before .before .if2 .left)) (c .before .before .parse-time .result) (c .before .before .parse-time .ensures) (c .enum-told .given .1)
+returns-3 c =
+    let s = c .before .before .before .before .before .before .before .before in
+    λ i at. stamp-bad-time (c .before .before .before .before .before .before .before .before .before .before .args .s .now) (s .find-parts .result) (s .find-parts .ensures) i at (not-false _ (c .before .before .before .before .before .before .if1 .left)) (not-false _ (c .before .before .before .before .if2 .left)) (c .before .before .parse-time .result) (c .before .before .parse-time .ensures) (c .enum-told .given .1)
 
 returns-4 : tie.Need-returns-4
-returns-4 c = λ i at. stamp-long-time (c .before .before .before .before .before .before .before .before .before .before .args .s .now) (c .before .before .before .before .before .before .before .before .find-parts .result) (c .before .before .before .before .before .before .before .before .find-parts .ensures) i at (not-false _ (c .before .before .before .before .before .before .if1 .left)) (not-false _ (c .before .before .before .before .if2 .left)) (c .before .before .parse-time .result) (c .before .before .parse-time .ensures) (c .enum-told2 .given .1)
+returns-4 c =
+    let s = c .before .before .before .before .before .before .before .before in
+    λ i at. stamp-long-time (c .before .before .before .before .before .before .before .before .before .before .args .s .now) (s .find-parts .result) (s .find-parts .ensures) i at (not-false _ (c .before .before .before .before .before .before .if1 .left)) (not-false _ (c .before .before .before .before .if2 .left)) (c .before .before .parse-time .result) (c .before .before .parse-time .ensures) (c .enum-told2 .given .1)
 
 returns-5 : tie.Need-returns-5
-returns-5 c = λ i at. stamp-rest (c .before .before .before .before .before .before .before .before .before .before .before .before .before .args .s .now) (c .before .before .before .before .before .before .before .before .before .before .before .find-parts .result) (c .before .before .before .before .before .before .before .before .before .before .before .find-parts .ensures) i at (not-false _ (c .before .before .before .before .before .before .before .before .before .if1 .left)) (not-false _ (c .before .before .before .before .before .before .before .if2 .left)) (c .before .before .before .before .before .parse-time .result) (c .before .before .before .before .before .parse-time .ensures) _ (c .before .before .before .z .given .1) _ (c .with-position .ensures)
+returns-5 c =
+    let s = c .before .before .before .before .before .before .before .before .before .before .before in
+    let t = c .before .before .before .before .before in
+    λ i at. stamp-rest (c .before .before .before .before .before .before .before .before .before .before .before .before .before .args .s .now) (s .find-parts .result) (s .find-parts .ensures) i at (not-false _ (c .before .before .before .before .before .before .before .before .before .if1 .left)) (not-false _ (c .before .before .before .before .before .before .before .if2 .left)) (t .parse-time .result) (t .parse-time .ensures) _ (c .before .before .before .z .given .1) _ (c .with-position .ensures)
 
 pub parse-timestamp-spec : {M : Type 1} → statement M
 parse-timestamp-spec =

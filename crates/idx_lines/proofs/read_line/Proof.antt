@@ -21,7 +21,9 @@ parse-timestamp-requires : tie.Need-parse-timestamp-requires
 parse-timestamp-requires c κs = search needs
 
 returns : tie.Need-returns
-returns c = line-timestamp (c .before .before .before .before .before .args .l .now) (c .before .before .before .before .before .args .palette .now) _ (c .before .before .before .is-timestamp .ensures) (c .before .before .if1 .taken) (c .parse-timestamp .result) (c .parse-timestamp .ensures)
+returns c =
+    let s = c .before .before .before .before .before in
+    line-timestamp (s .args .l .now) (s .args .palette .now) _ (c .before .before .before .is-timestamp .ensures) (c .before .before .if1 .taken) (c .parse-timestamp .result) (c .parse-timestamp .ensures)
 
 slice-aggregate-starts : tie.Need-slice-aggregate-starts
 slice-aggregate-starts c = search needs
@@ -42,7 +44,9 @@ parse-palette-requires : tie.Need-parse-palette-requires
 parse-palette-requires c κs = search needs
 
 returns-2 : tie.Need-returns-2
-returns-2 c = line-palette (c .before .before .before .before .before .before .before .before .before .args .l .now) (c .before .before .before .before .before .before .before .before .before .args .palette .now) _ (c .before .before .before .before .before .before .before .is-timestamp .ensures) (c .before .before .before .before .before .before .if1 .left) _ (c .before .before .before .before .starts .ensures) (c .before .before .before .if2 .taken) (c .parse-palette .result) _ (c .parse-palette .ensures)
+returns-2 c =
+    let s = c .before .before .before .before .before .before .before .before .before in
+    line-palette (s .args .l .now) (s .args .palette .now) _ (c .before .before .before .before .before .before .before .is-timestamp .ensures) (c .before .before .before .before .before .before .if1 .left) _ (c .before .before .before .before .starts .ensures) (c .before .before .before .if2 .taken) (c .parse-palette .result) _ (c .parse-palette .ensures)
 
 slice-aggregate-starts-2 : tie.Need-slice-aggregate-starts-2
 slice-aggregate-starts-2 c = search needs
@@ -63,10 +67,14 @@ parse-size-requires : tie.Need-parse-size-requires
 parse-size-requires c κs = search needs
 
 returns-3 : tie.Need-returns-3
-returns-3 c = line-size (c .before .before .before .before .before .before .before .before .before .before .before .args .l .now) (c .before .before .before .before .before .before .before .before .before .before .before .args .palette .now) _ (c .before .before .before .before .before .before .before .before .before .is-timestamp .ensures) (c .before .before .before .before .before .before .before .before .if1 .left) _ (c .before .before .before .before .before .before .starts .ensures) (c .before .before .before .before .before .if2 .left) _ (c .before .before .before .starts2 .ensures) (c .before .before .if3 .taken) (c .parse-size .result) (c .parse-size .ensures)
+returns-3 c =
+    let s = c .before .before .before .before .before .before .before .before .before .before .before in
+    line-size (s .args .l .now) (s .args .palette .now) _ (c .before .before .before .before .before .before .before .before .before .is-timestamp .ensures) (c .before .before .before .before .before .before .before .before .if1 .left) _ (c .before .before .before .before .before .before .starts .ensures) (c .before .before .before .before .before .if2 .left) _ (c .before .before .before .starts2 .ensures) (c .before .before .if3 .taken) (c .parse-size .result) (c .parse-size .ensures)
 
 returns-4 : tie.Need-returns-4
-returns-4 c = line-other (c .before .before .before .before .before .before .before .before .before .args .l .now) (c .before .before .before .before .before .before .before .before .before .args .palette .now) _ (c .before .before .before .before .before .before .before .is-timestamp .ensures) (c .before .before .before .before .before .before .if1 .left) _ (c .before .before .before .before .starts .ensures) (c .before .before .before .if2 .left) _ (c .before .starts2 .ensures) (c .if3 .left)
+returns-4 c =
+    let s = c .before .before .before .before .before .before .before .before .before in
+    line-other (s .args .l .now) (s .args .palette .now) _ (c .before .before .before .before .before .before .before .is-timestamp .ensures) (c .before .before .before .before .before .before .if1 .left) _ (c .before .before .before .before .starts .ensures) (c .before .before .before .if2 .left) _ (c .before .starts2 .ensures) (c .if3 .left)
 
 pub read-line-spec : {M : Type 1} → statement M
 read-line-spec =

@@ -29,10 +29,15 @@ enum-known-v : tie.Need-enum-known-v
 enum-known-v c = search needs
 
 returns : tie.Need-returns
-returns c = beside-bad (c .before .before .before .before .before .before .args .z) (c .before .before .before .before .before .before .args .z) refl (c .before .before .before .before .before .before .args .p .now) (c .before .before .before .trim .result .now) (c .before .before .parse-position .result) (c .before .before .before .trim .ensures) (c .before .before .parse-position .ensures) (c .enum-told .given .1)
+returns c =
+    let s = c .before .before .before .before .before .before in
+    beside-bad (s .args .z) (s .args .z) refl (s .args .p .now) (c .before .before .before .trim .result .now) (c .before .before .parse-position .result) (c .before .before .before .trim .ensures) (c .before .before .parse-position .ensures) (c .enum-told .given .1)
 
 returns-2 : tie.Need-returns-2
-returns-2 c = beside-good _ (c .before .before .before .before .before .before .before .args .z) (toZ-ofZ {w = w64} (c .before .before .before .before .before .before .before .fits .z)) (c .before .before .before .before .before .before .before .args .p .now) (c .before .before .before .before .trim .result .now) (c .before .before .before .parse-position .result) (c .before .before .before .before .trim .ensures) (c .before .before .before .parse-position .ensures) _ (c .before .v .given .1)
+returns-2 c =
+    let s = c .before .before .before .before .before .before .before in
+    let t = c .before .before .before .before in
+    beside-good _ (s .args .z) (toZ-ofZ {w = w64} (s .fits .z)) (s .args .p .now) (t .trim .result .now) (c .before .before .before .parse-position .result) (t .trim .ensures) (c .before .before .before .parse-position .ensures) _ (c .before .v .given .1)
 
 pub with-position-spec : {M : Type 1} → statement M
 with-position-spec =

@@ -24,10 +24,15 @@ shared-slice-read-b : tie.Need-shared-slice-read-b Inv-loop μ-loop
 shared-slice-read-b c = search needs
 
 returns : tie.Need-returns Inv-loop μ-loop
-returns c = run-stop 10 (c .before .before .before .before .before .args .most * 10 + c .before .before .before .before .before .args .last) (c .before .before .before .before .before .pre .some-base) (c .before .before .before .before .before .args .s .now) (c .before .before .before .loop .acc) (c .before .before .before .loop .i) (digit (getD (c .before .before .before .before .before .args .s .now) (c .before .before .before .loop .i) 0)) _ (c .before .before .before .loop .inv .2) refl (c .before .before .loop-test .taken) (c .before .before .before .loop .inv .1) (ten-low (getD (c .before .before .before .before .before .args .s .now) (c .before .before .before .loop .i) 0) (c .if1 .taken))
+returns c =
+    let s = c .before .before .before .before .before in
+    run-stop 10 (s .args .most * 10 + s .args .last) (s .pre .some-base) (s .args .s .now) (c .before .before .before .loop .acc) (c .before .before .before .loop .i) (digit (getD (s .args .s .now) (c .before .before .before .loop .i) 0)) _ (c .before .before .before .loop .inv .2) refl (c .before .before .loop-test .taken) (c .before .before .before .loop .inv .1) (ten-low (getD (s .args .s .now) (c .before .before .before .loop .i) 0) (c .if1 .taken))
 
 returns-2 : tie.Need-returns-2 Inv-loop μ-loop
-returns-2 c = run-stop 10 (c .before .before .before .before .before .before .args .most * 10 + c .before .before .before .before .before .before .args .last) (c .before .before .before .before .before .before .pre .some-base) (c .before .before .before .before .before .before .args .s .now) (c .before .before .before .before .loop .acc) (c .before .before .before .before .loop .i) (digit (getD (c .before .before .before .before .before .before .args .s .now) (c .before .before .before .before .loop .i) 0)) _ (c .before .before .before .before .loop .inv .2) refl (c .before .before .before .loop-test .taken) (c .before .before .before .before .loop .inv .1) (ten-high (getD (c .before .before .before .before .before .before .args .s .now) (c .before .before .before .before .loop .i) 0) (c .if2 .taken))
+returns-2 c =
+    let s = c .before .before .before .before .before .before in
+    let t = c .before .before .before .before in
+    run-stop 10 (s .args .most * 10 + s .args .last) (s .pre .some-base) (s .args .s .now) (t .loop .acc) (t .loop .i) (digit (getD (s .args .s .now) (t .loop .i) 0)) _ (t .loop .inv .2) refl (c .before .before .before .loop-test .taken) (t .loop .inv .1) (ten-high (getD (s .args .s .now) (t .loop .i) 0) (c .if2 .taken))
 
 cast-d : tie.Need-cast-d Inv-loop μ-loop
 cast-d c = search needs
@@ -39,13 +44,22 @@ fits-requires : tie.Need-fits-requires Inv-loop μ-loop
 fits-requires c κs = search needs
 
 returns-3 : tie.Need-returns-3 Inv-loop μ-loop
-returns-3 c = run-over 10 (c .before .before .before .before .before .before .before .before .args .most * 10 + c .before .before .before .before .before .before .before .before .args .last) (c .before .before .before .before .before .before .before .before .pre .some-base) (c .before .before .before .before .before .before .before .before .args .s .now) (c .before .before .before .before .before .before .loop .acc) (c .before .before .before .before .before .before .loop .i) (getD (c .before .before .before .before .before .before .before .before .args .s .now) (c .before .before .before .before .before .before .loop .i) 0 - 48) _ (c .before .before .before .before .before .before .loop .inv .2) (digit-2 (getD (c .before .before .before .before .before .before .before .before .args .s .now) (c .before .before .before .before .before .before .loop .i) 0) (c .before .before .before .if1 .left) (c .before .before .if2 .left)) (c .before .before .before .before .before .loop-test .taken) (omega (arith, c .before .before .if2 .left, c .before .before .before .if1 .left)) (room-no 10 (c .before .before .before .before .before .before .before .before .args .most) (c .before .before .before .before .before .before .before .before .args .last) (c .before .before .before .before .before .before .loop .acc) (getD (c .before .before .before .before .before .before .before .before .args .s .now) (c .before .before .before .before .before .before .loop .i) 0 - 48) (omega (arith, c .before .before .if2 .left, c .before .before .before .if1 .left)) (c .before .before .before .before .before .before .before .before .pre .less) (sym (c .before .fits2 .ensures) ∙ not-true _ (c .if3 .taken)))
+returns-3 c =
+    let s = c .before .before .before .before .before .before .before .before in
+    let t = c .before .before .before .before .before .before in
+    run-over 10 (s .args .most * 10 + s .args .last) (s .pre .some-base) (s .args .s .now) (t .loop .acc) (t .loop .i) (getD (s .args .s .now) (t .loop .i) 0 - 48) _ (t .loop .inv .2) (digit-2 (getD (s .args .s .now) (t .loop .i) 0) (c .before .before .before .if1 .left) (c .before .before .if2 .left)) (c .before .before .before .before .before .loop-test .taken) (omega (arith, c .before .before .if2 .left, c .before .before .before .if1 .left)) (room-no 10 (s .args .most) (s .args .last) (t .loop .acc) (getD (s .args .s .now) (t .loop .i) 0 - 48) (omega (arith, c .before .before .if2 .left, c .before .before .before .if1 .left)) (s .pre .less) (sym (c .before .fits2 .ensures) ∙ not-true _ (c .if3 .taken)))
 
 mul-acc : tie.Need-mul-acc Inv-loop μ-loop
-mul-acc c = omega (arith, c .before .before .before .before .before .before .before .before .pre .held, (room-yes 10 (c .before .before .before .before .before .before .before .before .args .most) (c .before .before .before .before .before .before .before .before .args .last) (c .before .before .before .before .before .before .loop .acc) (getD (c .before .before .before .before .before .before .before .before .args .s .now) (c .before .before .before .before .before .before .loop .i) 0 - 48) (omega (arith, c .before .before .if2 .left, c .before .before .before .if1 .left)) (c .before .before .before .before .before .before .before .before .pre .less) (sym (c .before .fits2 .ensures) ∙ not-false _ (c .if3 .left))))
+mul-acc c =
+    let s = c .before .before .before .before .before .before .before .before in
+    let t = c .before .before .before .before .before .before in
+    omega (arith, s .pre .held, (room-yes 10 (s .args .most) (s .args .last) (t .loop .acc) (getD (s .args .s .now) (t .loop .i) 0 - 48) (omega (arith, c .before .before .if2 .left, c .before .before .before .if1 .left)) (s .pre .less) (sym (c .before .fits2 .ensures) ∙ not-false _ (c .if3 .left))))
 
 add-acc : tie.Need-add-acc Inv-loop μ-loop
-add-acc c = omega (arith, c .before .before .before .before .before .before .before .before .pre .held, (room-yes 10 (c .before .before .before .before .before .before .before .before .args .most) (c .before .before .before .before .before .before .before .before .args .last) (c .before .before .before .before .before .before .loop .acc) (getD (c .before .before .before .before .before .before .before .before .args .s .now) (c .before .before .before .before .before .before .loop .i) 0 - 48) (omega (arith, c .before .before .if2 .left, c .before .before .before .if1 .left)) (c .before .before .before .before .before .before .before .before .pre .less) (sym (c .before .fits2 .ensures) ∙ not-false _ (c .if3 .left))))
+add-acc c =
+    let s = c .before .before .before .before .before .before .before .before in
+    let t = c .before .before .before .before .before .before in
+    omega (arith, s .pre .held, (room-yes 10 (s .args .most) (s .args .last) (t .loop .acc) (getD (s .args .s .now) (t .loop .i) 0 - 48) (omega (arith, c .before .before .if2 .left, c .before .before .before .if1 .left)) (s .pre .less) (sym (c .before .fits2 .ensures) ∙ not-false _ (c .if3 .left))))
 
 add-i : tie.Need-add-i Inv-loop μ-loop
 add-i c = search needs
@@ -54,7 +68,10 @@ loop-less : tie.Need-loop-less Inv-loop μ-loop
 loop-less c = search needs
 
 loop-again : tie.Need-loop-again Inv-loop μ-loop
-loop-again c = (omega arith, (room-yes 10 (c .before .before .before .before .before .before .before .before .args .most) (c .before .before .before .before .before .before .before .before .args .last) (c .before .before .before .before .before .before .loop .acc) (getD (c .before .before .before .before .before .before .before .before .args .s .now) (c .before .before .before .before .before .before .loop .i) 0 - 48) (omega (arith, c .before .before .if2 .left, c .before .before .before .if1 .left)) (c .before .before .before .before .before .before .before .before .pre .less) (sym (c .before .fits2 .ensures) ∙ not-false _ (c .if3 .left))), run-more 10 (c .before .before .before .before .before .before .before .before .args .most * 10 + c .before .before .before .before .before .before .before .before .args .last) (c .before .before .before .before .before .before .before .before .pre .some-base) (c .before .before .before .before .before .before .before .before .args .s .now) (c .before .before .before .before .before .before .loop .acc) (c .before .before .before .before .before .before .loop .i) (getD (c .before .before .before .before .before .before .before .before .args .s .now) (c .before .before .before .before .before .before .loop .i) 0 - 48) _ (c .before .before .before .before .before .before .loop .inv .2) (digit-2 (getD (c .before .before .before .before .before .before .before .before .args .s .now) (c .before .before .before .before .before .before .loop .i) 0) (c .before .before .before .if1 .left) (c .before .before .if2 .left)) (c .before .before .before .before .before .loop-test .taken) (omega (arith, c .before .before .if2 .left, c .before .before .before .if1 .left)))
+loop-again c =
+    let s = c .before .before .before .before .before .before .before .before in
+    let t = c .before .before .before .before .before .before in
+    (omega arith, (room-yes 10 (s .args .most) (s .args .last) (t .loop .acc) (getD (s .args .s .now) (t .loop .i) 0 - 48) (omega (arith, c .before .before .if2 .left, c .before .before .before .if1 .left)) (s .pre .less) (sym (c .before .fits2 .ensures) ∙ not-false _ (c .if3 .left))), run-more 10 (s .args .most * 10 + s .args .last) (s .pre .some-base) (s .args .s .now) (t .loop .acc) (t .loop .i) (getD (s .args .s .now) (t .loop .i) 0 - 48) _ (t .loop .inv .2) (digit-2 (getD (s .args .s .now) (t .loop .i) 0) (c .before .before .before .if1 .left) (c .before .before .if2 .left)) (c .before .before .before .before .before .loop-test .taken) (omega (arith, c .before .before .if2 .left, c .before .before .before .if1 .left)))
 
 returns-4 : tie.Need-returns-4 Inv-loop μ-loop
 returns-4 c = run-end 10 (c .before .before .before .args .most * 10 + c .before .before .before .args .last) (c .before .before .before .pre .some-base) (c .before .before .before .args .s .now) (c .before .loop .acc) (c .before .loop .i) _ (c .before .loop .inv .2) (c .before .loop .inv .1) (c .loop-test .left)

@@ -54,7 +54,9 @@ eight-of-requires : tie.Need-eight-of-requires
 eight-of-requires c κs = search needs
 
 returns : tie.Need-returns
-returns c = eight-is (c .before .before .before .before .before .before .before .before .before .before .args .s .now) (c .before .before .before .before .before .before .before .before .before .before .args .i) (c .before .before .before .before .before .before .before .before .before .before .pre) (c .eight-of .result) (c .eight-of .ensures)
+returns c =
+    let s = c .before .before .before .before .before .before .before .before .before .before in
+    eight-is (s .args .s .now) (s .args .i) (s .pre) (c .eight-of .result) (c .eight-of .ensures)
 
 pub eight-at-spec : {M : Type 1} → statement M
 eight-at-spec =

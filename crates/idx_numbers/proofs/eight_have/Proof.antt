@@ -34,7 +34,9 @@ loop-less : tie.Need-loop-less Inv-loop μ-loop
 loop-less c = search needs
 
 loop-again : tie.Need-loop-again Inv-loop μ-loop
-loop-again c = (omega arith, ⊎-elim (λ w. w .1 ∙ block-hit-at (c .before .before .before .before .args .sep) (c .before .before .before .before .args .s .now) (c .before .before .before .before .args .i) (c .before .before .before .loop .hit) (c .before .before .before .loop .j) (c .before .before .before .loop .inv .1) (omega (arith, c .before .before .before .before .pre)) (w .0 .taken)) (λ w. w .1 ∙ block-pass-at (c .before .before .before .before .args .sep) (c .before .before .before .before .args .s .now) (c .before .before .before .before .args .i) (c .before .before .before .loop .hit) (c .before .before .before .loop .j) (c .before .before .before .loop .inv .1) (omega (arith, c .before .before .before .before .pre)) (w .0 .left)) (c .if1 .came))
+loop-again c =
+    let s = c .before .before .before .before in
+    (omega arith, ⊎-elim (λ w. w .1 ∙ block-hit-at (s .args .sep) (s .args .s .now) (s .args .i) (c .before .before .before .loop .hit) (c .before .before .before .loop .j) (c .before .before .before .loop .inv .1) (omega (arith, s .pre)) (w .0 .taken)) (λ w. w .1 ∙ block-pass-at (s .args .sep) (s .args .s .now) (s .args .i) (c .before .before .before .loop .hit) (c .before .before .before .loop .j) (c .before .before .before .loop .inv .1) (omega (arith, s .pre)) (w .0 .left)) (c .if1 .came))
 
 returns : tie.Need-returns Inv-loop μ-loop
 returns c = block-full (c .before .before .args .sep) (drop (c .before .before .args .i) (c .before .before .args .s .now)) (c .before .loop .hit) (c .before .loop .j) (c .before .loop .inv .1) (c .loop-test .left) (c .before .loop .inv .0)

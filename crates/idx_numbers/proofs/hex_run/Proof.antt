@@ -26,10 +26,16 @@ digit-requires : tie.Need-digit-requires Inv-loop μ-loop
 digit-requires c κs = search needs
 
 returns : tie.Need-returns Inv-loop μ-loop
-returns c = run-stop 16 (c .before .before .before .before .before .before .args .most * 16 + 15) (c .before .before .before .before .before .before .pre .some-base) (c .before .before .before .before .before .before .args .s .now) (c .before .before .before .before .loop .acc) (c .before .before .before .before .loop .i) _ _ (c .before .before .before .before .loop .inv .2) (c .before .digit .ensures) (c .before .before .before .loop-test .taken) (c .before .before .before .before .loop .inv .1) (c .if1 .taken)
+returns c =
+    let s = c .before .before .before .before .before .before in
+    let t = c .before .before .before .before in
+    run-stop 16 (s .args .most * 16 + 15) (s .pre .some-base) (s .args .s .now) (t .loop .acc) (t .loop .i) _ _ (t .loop .inv .2) (c .before .digit .ensures) (c .before .before .before .loop-test .taken) (t .loop .inv .1) (c .if1 .taken)
 
 returns-2 : tie.Need-returns-2 Inv-loop μ-loop
-returns-2 c = run-over 16 (c .before .before .before .before .before .before .before .args .most * 16 + 15) (c .before .before .before .before .before .before .before .pre .some-base) (c .before .before .before .before .before .before .before .args .s .now) (c .before .before .before .before .before .loop .acc) (c .before .before .before .before .before .loop .i) (c .before .before .digit .result) _ (c .before .before .before .before .before .loop .inv .2) (c .before .before .digit .ensures) (c .before .before .before .before .loop-test .taken) (c .before .if1 .left) (omega (arith, c .if2 .taken))
+returns-2 c =
+    let s = c .before .before .before .before .before .before .before in
+    let t = c .before .before .before .before .before in
+    run-over 16 (s .args .most * 16 + 15) (s .pre .some-base) (s .args .s .now) (t .loop .acc) (t .loop .i) (c .before .before .digit .result) _ (t .loop .inv .2) (c .before .before .digit .ensures) (c .before .before .before .before .loop-test .taken) (c .before .if1 .left) (omega (arith, c .if2 .taken))
 
 mul-acc : tie.Need-mul-acc Inv-loop μ-loop
 mul-acc c = omega (arith, c .before .before .before .before .before .before .before .pre .held, c .if2 .left)
@@ -44,7 +50,10 @@ loop-less : tie.Need-loop-less Inv-loop μ-loop
 loop-less c = search needs
 
 loop-again : tie.Need-loop-again Inv-loop μ-loop
-loop-again c = (omega arith, omega (arith, c .if2 .left, c .before .if1 .left), run-more 16 (c .before .before .before .before .before .before .before .args .most * 16 + 15) (c .before .before .before .before .before .before .before .pre .some-base) (c .before .before .before .before .before .before .before .args .s .now) (c .before .before .before .before .before .loop .acc) (c .before .before .before .before .before .loop .i) (c .before .before .digit .result) _ (c .before .before .before .before .before .loop .inv .2) (c .before .before .digit .ensures) (c .before .before .before .before .loop-test .taken) (c .before .if1 .left))
+loop-again c =
+    let s = c .before .before .before .before .before .before .before in
+    let t = c .before .before .before .before .before in
+    (omega arith, omega (arith, c .if2 .left, c .before .if1 .left), run-more 16 (s .args .most * 16 + 15) (s .pre .some-base) (s .args .s .now) (t .loop .acc) (t .loop .i) (c .before .before .digit .result) _ (t .loop .inv .2) (c .before .before .digit .ensures) (c .before .before .before .before .loop-test .taken) (c .before .if1 .left))
 
 returns-3 : tie.Need-returns-3 Inv-loop μ-loop
 returns-3 c = run-end 16 (c .before .before .before .args .most * 16 + 15) (c .before .before .before .pre .some-base) (c .before .before .before .args .s .now) (c .before .loop .acc) (c .before .loop .i) _ (c .before .loop .inv .2) (c .before .loop .inv .1) (c .loop-test .left)

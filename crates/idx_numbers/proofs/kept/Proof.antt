@@ -32,7 +32,9 @@ is-blank-requires : tie.Need-is-blank-requires Inv-loop μ-loop
 is-blank-requires c κs = search needs
 
 returns : tie.Need-returns Inv-loop μ-loop
-returns c = kept-stop _ _ _ (c .before .before .before .before .loop .inv .1) (c .before .before .before .loop-test .taken) (c .before .before .before .before .loop .inv .0) (sym (c .before .is-blank .ensures) ∙ not-true _ (c .if1 .taken))
+returns c =
+    let s = c .before .before .before .before in
+    kept-stop _ _ _ (s .loop .inv .1) (c .before .before .before .loop-test .taken) (s .loop .inv .0) (sym (c .before .is-blank .ensures) ∙ not-true _ (c .if1 .taken))
 
 sub-e : tie.Need-sub-e Inv-loop μ-loop
 sub-e c = search needs
@@ -41,7 +43,9 @@ loop-less : tie.Need-loop-less Inv-loop μ-loop
 loop-less c = search needs
 
 loop-again : tie.Need-loop-again Inv-loop μ-loop
-loop-again c = (omega arith, kept-more _ _ _ (c .before .before .before .before .loop .inv .1) (c .before .before .before .loop-test .taken) (c .before .before .before .before .loop .inv .0) (sym (c .before .is-blank .ensures) ∙ not-false _ (c .if1 .left)))
+loop-again c =
+    let s = c .before .before .before .before in
+    (omega arith, kept-more _ _ _ (s .loop .inv .1) (c .before .before .before .loop-test .taken) (s .loop .inv .0) (sym (c .before .is-blank .ensures) ∙ not-false _ (c .if1 .left)))
 
 returns-2 : tie.Need-returns-2 Inv-loop μ-loop
 returns-2 c = kept-end _ _ _ (c .before .loop .inv .1) (c .loop-test .left)

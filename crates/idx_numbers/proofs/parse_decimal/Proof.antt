@@ -30,7 +30,9 @@ whole-requires : tie.Need-whole-requires
 whole-requires c κs = search needs
 
 returns-2 : tie.Need-returns-2
-returns-2 c = c .whole .ensures 10 (c .before .before .before .before .before .before .before .args .most * 10 + c .before .before .before .before .before .before .before .args .last) (take (length (c .before .before .before .before .before .before .before .args .s .now) - 1) (drop 1 (c .before .before .before .before .before .before .before .args .s .now))) (c .before .before .before .before .before .before .before .pre .some-base) (c .before .decimal-run .ensures) refl ∙ unsigned-plus 10 (c .before .before .before .before .before .before .before .args .most * 10 + c .before .before .before .before .before .before .before .args .last) (c .before .before .before .before .before .before .before .args .s .now) (omega arith) (c .before .before .before .if2 .taken)
+returns-2 c =
+    let s = c .before .before .before .before .before .before .before in
+    c .whole .ensures 10 (s .args .most * 10 + s .args .last) (take (length (s .args .s .now) - 1) (drop 1 (s .args .s .now))) (s .pre .some-base) (c .before .decimal-run .ensures) refl ∙ unsigned-plus 10 (s .args .most * 10 + s .args .last) (s .args .s .now) (omega arith) (c .before .before .before .if2 .taken)
 
 decimal-run-requires-2 : tie.Need-decimal-run-requires-2
 decimal-run-requires-2 c κs = c .before .before .before .before .pre
@@ -39,7 +41,9 @@ whole-requires-2 : tie.Need-whole-requires-2
 whole-requires-2 c κs = search needs
 
 returns-3 : tie.Need-returns-3
-returns-3 c = c .whole2 .ensures 10 (c .before .before .before .before .before .before .args .most * 10 + c .before .before .before .before .before .before .args .last) (c .before .before .before .before .before .before .args .s .now) (c .before .before .before .before .before .before .pre .some-base) (c .before .decimal-run2 .ensures) refl ∙ unsigned-plain 10 (c .before .before .before .before .before .before .args .most * 10 + c .before .before .before .before .before .before .args .last) (c .before .before .before .before .before .before .args .s .now) (omega arith) (c .before .before .if2 .left)
+returns-3 c =
+    let s = c .before .before .before .before .before .before in
+    c .whole2 .ensures 10 (s .args .most * 10 + s .args .last) (s .args .s .now) (s .pre .some-base) (c .before .decimal-run2 .ensures) refl ∙ unsigned-plain 10 (s .args .most * 10 + s .args .last) (s .args .s .now) (omega arith) (c .before .before .if2 .left)
 
 pub parse-decimal-spec : {M : Type 1} → statement M
 parse-decimal-spec =

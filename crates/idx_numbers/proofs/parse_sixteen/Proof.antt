@@ -30,7 +30,9 @@ whole-requires : tie.Need-whole-requires
 whole-requires c κs = search needs
 
 returns-2 : tie.Need-returns-2
-returns-2 c = c .whole .ensures 16 (c .before .before .before .before .before .before .before .args .most * 16 + 15) (take (length (c .before .before .before .before .before .before .before .args .s .now) - 1) (drop 1 (c .before .before .before .before .before .before .before .args .s .now))) (c .before .before .before .before .before .before .before .pre .some-base) (c .before .hex-run .ensures) refl ∙ unsigned-plus 16 (c .before .before .before .before .before .before .before .args .most * 16 + 15) (c .before .before .before .before .before .before .before .args .s .now) (omega arith) (c .before .before .before .if2 .taken)
+returns-2 c =
+    let s = c .before .before .before .before .before .before .before in
+    c .whole .ensures 16 (s .args .most * 16 + 15) (take (length (s .args .s .now) - 1) (drop 1 (s .args .s .now))) (s .pre .some-base) (c .before .hex-run .ensures) refl ∙ unsigned-plus 16 (s .args .most * 16 + 15) (s .args .s .now) (omega arith) (c .before .before .before .if2 .taken)
 
 hex-run-requires-2 : tie.Need-hex-run-requires-2
 hex-run-requires-2 c κs = c .before .before .before .before .pre
@@ -39,7 +41,9 @@ whole-requires-2 : tie.Need-whole-requires-2
 whole-requires-2 c κs = search needs
 
 returns-3 : tie.Need-returns-3
-returns-3 c = c .whole2 .ensures 16 (c .before .before .before .before .before .before .args .most * 16 + 15) (c .before .before .before .before .before .before .args .s .now) (c .before .before .before .before .before .before .pre .some-base) (c .before .hex-run2 .ensures) refl ∙ unsigned-plain 16 (c .before .before .before .before .before .before .args .most * 16 + 15) (c .before .before .before .before .before .before .args .s .now) (omega arith) (c .before .before .if2 .left)
+returns-3 c =
+    let s = c .before .before .before .before .before .before in
+    c .whole2 .ensures 16 (s .args .most * 16 + 15) (s .args .s .now) (s .pre .some-base) (c .before .hex-run2 .ensures) refl ∙ unsigned-plain 16 (s .args .most * 16 + 15) (s .args .s .now) (omega arith) (c .before .before .if2 .left)
 
 pub parse-sixteen-spec : {M : Type 1} → statement M
 parse-sixteen-spec =

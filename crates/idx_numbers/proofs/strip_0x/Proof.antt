@@ -33,7 +33,9 @@ part-result-end : tie.Need-part-result-end Inv-loop μ-loop
 part-result-end c = omega arith
 
 returns : tie.Need-returns Inv-loop μ-loop
-returns c = bare-first (c .before .before .before .before .before .args .s .now) (c .before .before .before .before .loop .i) (c .before .before .before .before .loop .inv .1) (c .before .before .before .loop-test .taken) (c .before .if1 .taken)
+returns c =
+    let s = c .before .before .before .before in
+    bare-first (c .before .before .before .before .before .args .s .now) (s .loop .i) (s .loop .inv .1) (c .before .before .before .loop-test .taken) (c .before .if1 .taken)
 
 add-if2 : tie.Need-add-if2 Inv-loop μ-loop
 add-if2 c = omega arith
@@ -51,7 +53,9 @@ part-result-end-2 : tie.Need-part-result-end-2 Inv-loop μ-loop
 part-result-end-2 c = omega arith
 
 returns-2 : tie.Need-returns-2 Inv-loop μ-loop
-returns-2 c = bare-second (c .before .before .before .before .before .before .before .args .s .now) (c .before .before .before .before .before .before .loop .i) (c .before .before .before .before .before .before .loop .inv .1) (c .before .before .before .before .before .loop-test .taken) (c .before .if2 .taken)
+returns-2 c =
+    let s = c .before .before .before .before .before .before in
+    bare-second (c .before .before .before .before .before .before .before .args .s .now) (s .loop .i) (s .loop .inv .1) (c .before .before .before .before .before .loop-test .taken) (c .before .if2 .taken)
 
 add-i : tie.Need-add-i Inv-loop μ-loop
 add-i c = omega arith
@@ -60,7 +64,9 @@ loop-less : tie.Need-loop-less Inv-loop μ-loop
 loop-less c = omega arith
 
 loop-again : tie.Need-loop-again Inv-loop μ-loop
-loop-again c = (omega arith, bare-more (c .before .before .before .before .before .before .args .s .now) (c .before .before .before .before .before .loop .i) (c .before .before .before .before .before .loop .inv .1) (c .before .before .before .before .loop-test .taken) (c .before .before .if1 .left) (c .if2 .left))
+loop-again c =
+    let s = c .before .before .before .before .before in
+    (omega arith, bare-more (c .before .before .before .before .before .before .args .s .now) (s .loop .i) (s .loop .inv .1) (c .before .before .before .before .loop-test .taken) (c .before .before .if1 .left) (c .if2 .left))
 
 sub-result-3 : tie.Need-sub-result-3 Inv-loop μ-loop
 sub-result-3 c = omega arith

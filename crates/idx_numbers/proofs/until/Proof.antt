@@ -38,10 +38,15 @@ near-requires : tie.Need-near-requires Inv-loop μ-loop
 near-requires c κs = search needs
 
 add-result : tie.Need-add-result Inv-loop μ-loop
-add-result c = omega (arith, near-end _ _ _ (c .before .before .before .before .before .loop .inv .0) (c .before .before .before .before .before .loop .inv .1) _ (c .near .ensures), front-le (unlike (c .before .before .before .before .before .before .before .args .sep)) (c .before .before .before .before .before .before .before .args .s .now))
+add-result c =
+    let s = c .before .before .before .before .before .before .before in
+    let t = c .before .before .before .before .before in
+    omega (arith, near-end _ _ _ (t .loop .inv .0) (t .loop .inv .1) _ (c .near .ensures), front-le (unlike (s .args .sep)) (s .args .s .now))
 
 returns : tie.Need-returns Inv-loop μ-loop
-returns c = near-end _ _ _ (c .before .before .before .before .before .loop .inv .0) (c .before .before .before .before .before .loop .inv .1) _ (c .near .ensures)
+returns c =
+    let s = c .before .before .before .before .before in
+    near-end _ _ _ (s .loop .inv .0) (s .loop .inv .1) _ (c .near .ensures)
 
 add-i : tie.Need-add-i Inv-loop μ-loop
 add-i c = search needs
@@ -65,7 +70,9 @@ near-requires-2 : tie.Need-near-requires-2 Inv-loop μ-loop
 near-requires-2 c κs = search needs
 
 add-result-2 : tie.Need-add-result-2 Inv-loop μ-loop
-add-result-2 c = omega (arith, near-end _ _ _ (c .before .before .before .loop .inv .0) (c .before .before .before .loop .inv .1) _ (c .near2 .ensures), front-le (unlike (c .before .before .before .before .before .args .sep)) (c .before .before .before .before .before .args .s .now))
+add-result-2 c =
+    let s = c .before .before .before .before .before in
+    omega (arith, near-end _ _ _ (c .before .before .before .loop .inv .0) (c .before .before .before .loop .inv .1) _ (c .near2 .ensures), front-le (unlike (s .args .sep)) (s .args .s .now))
 
 returns-2 : tie.Need-returns-2 Inv-loop μ-loop
 returns-2 c = near-end _ _ _ (c .before .before .before .loop .inv .0) (c .before .before .before .loop .inv .1) _ (c .near2 .ensures)

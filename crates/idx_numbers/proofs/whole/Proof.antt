@@ -11,16 +11,22 @@ enum-known-r : tie.Need-enum-known-r
 enum-known-r c = search needs
 
 returns : tie.Need-returns
-returns c = λ base top s h e l. whole-none (c .before .before .before .before .args .r) (c .before .before .before .before .args .n) base top s h e l _ _ (c .before .before .r .given .1) (c .if1 .taken)
+returns c =
+    let t = c .before .before .before .before in
+    λ base top s h e l. whole-none (t .args .r) (t .args .n) base top s h e l _ _ (c .before .before .r .given .1) (c .if1 .taken)
 
 returns-2 : tie.Need-returns-2
-returns-2 c = λ base top s h e l. whole-short (c .before .before .before .before .before .args .r) (c .before .before .before .before .before .args .n) base top s h e l _ _ (c .before .before .before .r .given .1) (c .if2 .taken)
+returns-2 c =
+    let t = c .before .before .before .before .before in
+    λ base top s h e l. whole-short (t .args .r) (t .args .n) base top s h e l _ _ (c .before .before .before .r .given .1) (c .if2 .taken)
 
 returns-3 : tie.Need-returns-3
 returns-3 c = λ base top s h e l. whole-over (c .before .before .args .r) (c .before .before .args .n) base top s h e l (c .enum-told .given .1)
 
 returns-4 : tie.Need-returns-4
-returns-4 c = λ base top s h e l. whole-good (c .before .before .before .before .before .args .r) (c .before .before .before .before .before .args .n) base top s h e l _ _ (c .before .before .before .r .given .1) (c .before .if1 .left) (c .if2 .left)
+returns-4 c =
+    let t = c .before .before .before .before .before in
+    λ base top s h e l. whole-good (t .args .r) (t .args .n) base top s h e l _ _ (c .before .before .before .r .given .1) (c .before .if1 .left) (c .if2 .left)
 
 pub whole-spec : {M : Type 1} → statement M
 whole-spec =

@@ -21,7 +21,10 @@ put-refused-requires : tie.Need-put-refused-requires
 put-refused-requires c κs = search needs
 
 returns : tie.Need-returns
-returns c = let w = listed-line _ (c .before .before .before .before .before .before .before .args .file .now) (c .before .before .before .before .before .before .before .args .n) _ (omega arith) (line-none (c .before .before .before .before .before .before .before .args .starts .now) (c .before .before .before .before .before .before .before .args .positions .now) (c .before .before .before .before .before .before .before .args .cues) (c .before .before .before .before .before .before .before .args .file .now) (c .before .before .before .before .before .before .before .args .n) _ (c .before .before .before .lesser2 .ensures ∙ ap (min (c .before .before .before .before .before .before .before .args .cues)) (c .before .before .before .before .lesser .ensures)) (c .before .before .if1 .taken)) (c .put-refused .ensures) in (w .0, w .1, form-none (c .before .before .before .before .before .before .before .args .starts .now) (c .before .before .before .before .before .before .before .args .positions .now) (c .before .before .before .before .before .before .before .args .cues) (c .before .before .before .before .before .before .before .args .file .now) (c .before .before .before .before .before .before .before .args .n) _ (c .before .before .before .lesser2 .ensures ∙ ap (min (c .before .before .before .before .before .before .before .args .cues)) (c .before .before .before .before .lesser .ensures)) (c .before .before .if1 .taken) _)
+returns c =
+    let s = c .before .before .before .before .before .before .before in
+    let t = c .before .before .before .before in
+    let w = listed-line _ (s .args .file .now) (s .args .n) _ (omega arith) (line-none (s .args .starts .now) (s .args .positions .now) (s .args .cues) (s .args .file .now) (s .args .n) _ (c .before .before .before .lesser2 .ensures ∙ ap (min (s .args .cues)) (t .lesser .ensures)) (c .before .before .if1 .taken)) (c .put-refused .ensures) in (w .0, w .1, form-none (s .args .starts .now) (s .args .positions .now) (s .args .cues) (s .args .file .now) (s .args .n) _ (c .before .before .before .lesser2 .ensures ∙ ap (min (s .args .cues)) (t .lesser .ensures)) (c .before .before .if1 .taken) _)
 
 mul-start : tie.Need-mul-start
 mul-start c = search needs
@@ -51,7 +54,10 @@ put-cue-requires : tie.Need-put-cue-requires
 put-cue-requires c κs = search needs
 
 returns-2 : tie.Need-returns-2
-returns-2 c = let w = listed-line _ (c .before .before .before .before .before .before .before .before .before .before .before .before .before .args .file .now) (c .before .before .before .before .before .before .before .before .before .before .before .before .before .args .n) _ (omega arith) (line-next (c .before .before .before .before .before .before .before .before .before .before .before .before .before .args .starts .now) (c .before .before .before .before .before .before .before .before .before .before .before .before .before .args .positions .now) (c .before .before .before .before .before .before .before .before .before .before .before .before .before .args .cues) (c .before .before .before .before .before .before .before .before .before .before .before .before .before .args .file .now) (c .before .before .before .before .before .before .before .before .before .before .before .before .before .args .n) _ (c .before .before .before .before .before .before .before .before .before .lesser2 .ensures ∙ ap (min (c .before .before .before .before .before .before .before .before .before .before .before .before .before .args .cues)) (c .before .before .before .before .before .before .before .before .before .before .lesser .ensures)) _ _ _ (toZ-ofZ {w = w64} (record { sfits = c .before .before .before .before .before .before .before .start .given })) refl (c .before .before .before .before .before .before .before .before .if1 .left) (c .before .before .before .before .before .before .if2 .taken) (toZ-ofZ {w = w64} (record { sfits = c .before .before .before .before .before .duration-of-arg .given })) _ (c .before .before .before .before .duration-of .ensures)) (c .put-cue .ensures .0) in (w .0, w .1, form-some (c .before .before .before .before .before .before .before .before .before .before .before .before .before .args .starts .now) (c .before .before .before .before .before .before .before .before .before .before .before .before .before .args .positions .now) (c .before .before .before .before .before .before .before .before .before .before .before .before .before .args .cues) (c .before .before .before .before .before .before .before .before .before .before .before .before .before .args .file .now) (c .before .before .before .before .before .before .before .before .before .before .before .before .before .args .n) _ (c .before .before .before .before .before .before .before .before .before .lesser2 .ensures ∙ ap (min (c .before .before .before .before .before .before .before .before .before .before .before .before .before .args .cues)) (c .before .before .before .before .before .before .before .before .before .before .lesser .ensures)) (c .before .before .before .before .before .before .before .before .if1 .left) _ _ (c .put-cue .ensures .1))
+returns-2 c =
+    let s = c .before .before .before .before .before .before .before .before .before .before .before .before .before in
+    let t = c .before .before .before .before .before .before .before .before .before .before in
+    let w = listed-line _ (s .args .file .now) (s .args .n) _ (omega arith) (line-next (s .args .starts .now) (s .args .positions .now) (s .args .cues) (s .args .file .now) (s .args .n) _ (c .before .before .before .before .before .before .before .before .before .lesser2 .ensures ∙ ap (min (s .args .cues)) (t .lesser .ensures)) _ _ _ (toZ-ofZ {w = w64} (record { sfits = c .before .before .before .before .before .before .before .start .given })) refl (c .before .before .before .before .before .before .before .before .if1 .left) (c .before .before .before .before .before .before .if2 .taken) (toZ-ofZ {w = w64} (record { sfits = c .before .before .before .before .before .duration-of-arg .given })) _ (c .before .before .before .before .duration-of .ensures)) (c .put-cue .ensures .0) in (w .0, w .1, form-some (s .args .starts .now) (s .args .positions .now) (s .args .cues) (s .args .file .now) (s .args .n) _ (c .before .before .before .before .before .before .before .before .before .lesser2 .ensures ∙ ap (min (s .args .cues)) (t .lesser .ensures)) (c .before .before .before .before .before .before .before .before .if1 .left) _ _ (c .put-cue .ensures .1))
 
 mul-put-cue-2 : tie.Need-mul-put-cue-2
 mul-put-cue-2 c = search needs
@@ -63,7 +69,10 @@ put-cue-requires-2 : tie.Need-put-cue-requires-2
 put-cue-requires-2 c κs = search needs
 
 returns-3 : tie.Need-returns-3
-returns-3 c = let w = listed-line _ (c .before .before .before .before .before .before .before .before .before .before .before .args .file .now) (c .before .before .before .before .before .before .before .before .before .before .before .args .n) _ (omega arith) (line-last (c .before .before .before .before .before .before .before .before .before .before .before .args .starts .now) (c .before .before .before .before .before .before .before .before .before .before .before .args .positions .now) (c .before .before .before .before .before .before .before .before .before .before .before .args .cues) (c .before .before .before .before .before .before .before .before .before .before .before .args .file .now) (c .before .before .before .before .before .before .before .before .before .before .before .args .n) _ (c .before .before .before .before .before .before .before .lesser2 .ensures ∙ ap (min (c .before .before .before .before .before .before .before .before .before .before .before .args .cues)) (c .before .before .before .before .before .before .before .before .lesser .ensures)) _ (pos 0) _ (toZ-ofZ {w = w64} (record { sfits = c .before .before .before .before .before .start .given })) refl (c .before .before .before .before .before .before .if1 .left) (c .before .before .before .before .if2 .left)) (c .put-cue2 .ensures .0) in (w .0, w .1, form-some (c .before .before .before .before .before .before .before .before .before .before .before .args .starts .now) (c .before .before .before .before .before .before .before .before .before .before .before .args .positions .now) (c .before .before .before .before .before .before .before .before .before .before .before .args .cues) (c .before .before .before .before .before .before .before .before .before .before .before .args .file .now) (c .before .before .before .before .before .before .before .before .before .before .before .args .n) _ (c .before .before .before .before .before .before .before .lesser2 .ensures ∙ ap (min (c .before .before .before .before .before .before .before .before .before .before .before .args .cues)) (c .before .before .before .before .before .before .before .before .lesser .ensures)) (c .before .before .before .before .before .before .if1 .left) _ _ (c .put-cue2 .ensures .1))
+returns-3 c =
+    let s = c .before .before .before .before .before .before .before .before .before .before .before in
+    let t = c .before .before .before .before .before .before .before .before in
+    let w = listed-line _ (s .args .file .now) (s .args .n) _ (omega arith) (line-last (s .args .starts .now) (s .args .positions .now) (s .args .cues) (s .args .file .now) (s .args .n) _ (c .before .before .before .before .before .before .before .lesser2 .ensures ∙ ap (min (s .args .cues)) (t .lesser .ensures)) _ (pos 0) _ (toZ-ofZ {w = w64} (record { sfits = c .before .before .before .before .before .start .given })) refl (c .before .before .before .before .before .before .if1 .left) (c .before .before .before .before .if2 .left)) (c .put-cue2 .ensures .0) in (w .0, w .1, form-some (s .args .starts .now) (s .args .positions .now) (s .args .cues) (s .args .file .now) (s .args .n) _ (c .before .before .before .before .before .before .before .lesser2 .ensures ∙ ap (min (s .args .cues)) (t .lesser .ensures)) (c .before .before .before .before .before .before .if1 .left) _ _ (c .put-cue2 .ensures .1))
 
 pub cue-line-spec : {M : Type 1} → statement M
 cue-line-spec =

@@ -33,13 +33,22 @@ put-refused-requires : tie.Need-put-refused-requires
 put-refused-requires c κs = search needs
 
 returns : tie.Need-returns
-returns c = (found-line (c .before .before .before .before .before .before .before .before .before .before .args .n) (c .before .before .before .before .before .before .before .before .before .before .args .start) (durationIs (c .before .before .before .before .before .before .before .before .before .before .args .lasts) (c .before .before .before .before .before .before .before .before .before .before .args .duration)) _ (toZ-ofZ {w = w64} (c .before .before .before .before .before .before .before .before .before .before .fits .start)) _ (c .before .before .before .before .before .before .before .before .before .before .args .file .now) (c .before .before .before .before .before .before .before .before .before .shared-slice-known .given) (c .before .before .before .before .before .before .before .before .before .before .args .position) _ _ _ (search needs) (named (c .before .before .before .before .before .k .given .1) (c .before .before .before .before .before .before .before .extract-spu .ensures .0)) (λ k q. let z : _≡_ {A = ℕ} 0 1 = cc in omega arith) (c .put-found .ensures), scratch-kept (c .before .before .before .before .before .before .before .before .before .before .args .file .now) (c .before .before .before .before .before .before .before .before .before .shared-slice-known .given) (c .before .before .before .before .before .before .before .before .before .before .args .position) _ _ _ (search needs) (c .before .before .before .before .before .before .before .extract-spu .ensures .0))
+returns c =
+    let s = c .before .before .before .before .before .before .before .before .before .before in
+    let t = c .before .before .before .before .before .before .before .before .before in
+    (found-line (s .args .n) (s .args .start) (durationIs (s .args .lasts) (s .args .duration)) _ (toZ-ofZ {w = w64} (s .fits .start)) _ (s .args .file .now) (t .shared-slice-known .given) (s .args .position) _ _ _ (search needs) (named (c .before .before .before .before .before .k .given .1) (c .before .before .before .before .before .before .before .extract-spu .ensures .0)) (λ k q. let z : _≡_ {A = ℕ} 0 1 = cc in omega arith) (c .put-found .ensures), scratch-kept (s .args .file .now) (t .shared-slice-known .given) (s .args .position) _ _ _ (search needs) (c .before .before .before .before .before .before .before .extract-spu .ensures .0))
 
 returns-2 : tie.Need-returns-2
-returns-2 c = (found-line (c .before .before .before .before .before .before .before .before .before .before .args .n) (c .before .before .before .before .before .before .before .before .before .before .args .start) (durationIs (c .before .before .before .before .before .before .before .before .before .before .args .lasts) (c .before .before .before .before .before .before .before .before .before .before .args .duration)) _ (toZ-ofZ {w = w64} (c .before .before .before .before .before .before .before .before .before .before .fits .start)) _ (c .before .before .before .before .before .before .before .before .before .before .args .file .now) (c .before .before .before .before .before .before .before .before .before .shared-slice-known .given) (c .before .before .before .before .before .before .before .before .before .before .args .position) _ _ _ (search needs) (named (c .before .before .before .before .before .k2 .given .1) (c .before .before .before .before .before .before .before .extract-spu .ensures .0)) (λ k q. let z : _≡_ {A = ℕ} 0 1 = cc in omega arith) (c .put-found2 .ensures), scratch-kept (c .before .before .before .before .before .before .before .before .before .before .args .file .now) (c .before .before .before .before .before .before .before .before .before .shared-slice-known .given) (c .before .before .before .before .before .before .before .before .before .before .args .position) _ _ _ (search needs) (c .before .before .before .before .before .before .before .extract-spu .ensures .0))
+returns-2 c =
+    let s = c .before .before .before .before .before .before .before .before .before .before in
+    let t = c .before .before .before .before .before .before .before .before .before in
+    (found-line (s .args .n) (s .args .start) (durationIs (s .args .lasts) (s .args .duration)) _ (toZ-ofZ {w = w64} (s .fits .start)) _ (s .args .file .now) (t .shared-slice-known .given) (s .args .position) _ _ _ (search needs) (named (c .before .before .before .before .before .k2 .given .1) (c .before .before .before .before .before .before .before .extract-spu .ensures .0)) (λ k q. let z : _≡_ {A = ℕ} 0 1 = cc in omega arith) (c .put-found2 .ensures), scratch-kept (s .args .file .now) (t .shared-slice-known .given) (s .args .position) _ _ _ (search needs) (c .before .before .before .before .before .before .before .extract-spu .ensures .0))
 
 returns-3 : tie.Need-returns-3
-returns-3 c = (none-line (c .before .before .before .before .before .before .before .before .args .n) (c .before .before .before .before .before .before .before .before .args .start) (durationIs (c .before .before .before .before .before .before .before .before .args .lasts) (c .before .before .before .before .before .before .before .before .args .duration)) _ (c .before .before .before .before .before .before .before .before .args .file .now) (c .before .before .before .before .before .before .before .shared-slice-known .given) (c .before .before .before .before .before .before .before .before .args .position) _ _ _ _ (search needs) (c .before .before .before .before .before .extract-spu .ensures .0) (c .before .before .before .number .given .1) (c .put-refused .ensures), scratch-kept (c .before .before .before .before .before .before .before .before .args .file .now) (c .before .before .before .before .before .before .before .shared-slice-known .given) (c .before .before .before .before .before .before .before .before .args .position) _ _ _ (search needs) (c .before .before .before .before .before .extract-spu .ensures .0))
+returns-3 c =
+    let s = c .before .before .before .before .before .before .before .before in
+    let t = c .before .before .before .before .before .before .before in
+    (none-line (s .args .n) (s .args .start) (durationIs (s .args .lasts) (s .args .duration)) _ (s .args .file .now) (t .shared-slice-known .given) (s .args .position) _ _ _ _ (search needs) (c .before .before .before .before .before .extract-spu .ensures .0) (c .before .before .before .number .given .1) (c .put-refused .ensures), scratch-kept (s .args .file .now) (t .shared-slice-known .given) (s .args .position) _ _ _ (search needs) (c .before .before .before .before .before .extract-spu .ensures .0))
 
 pub put-cue-spec : {M : Type 1} → statement M
 put-cue-spec =

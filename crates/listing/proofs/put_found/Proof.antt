@@ -14,7 +14,9 @@ put-unit-requires : tie.Need-put-unit-requires
 put-unit-requires c κs = search needs
 
 returns : tie.Need-returns
-returns c = part-line (c .before .before .before .before .before .args .n) (c .before .before .before .before .before .args .start) (durationIs (c .before .before .before .before .before .args .lasts) (c .before .before .before .before .before .args .duration)) _ (toZ-ofZ {w = w64} (c .before .before .before .before .before .fits .start)) _ _ _ (c .before .before .unit-part .ensures) (c .put-unit .ensures)
+returns c =
+    let s = c .before .before .before .before .before in
+    part-line (s .args .n) (s .args .start) (durationIs (s .args .lasts) (s .args .duration)) _ (toZ-ofZ {w = w64} (s .fits .start)) _ _ _ (c .before .before .unit-part .ensures) (c .put-unit .ensures)
 
 pub put-found-spec : {M : Type 1} → statement M
 put-found-spec = tie.close (tie.spec unit-part-requires put-unit-requires returns)

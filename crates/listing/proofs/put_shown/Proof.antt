@@ -58,7 +58,9 @@ put-delays-requires c κs = search needs
 
 returns : tie.Need-returns
 unfolding shownLine
-returns c = put-put (put-as (ap (λ (z : ℤ). times (c .before .before .before .before .before .before .before .before .before .before .before .before .before .before .before .args .n) z (durationIs (c .before .before .before .before .before .before .before .before .before .before .before .before .before .before .before .args .lasts) (c .before .before .before .before .before .before .before .before .before .before .before .before .before .before .before .args .duration))) (toZ-ofZ {w = w64} (c .before .before .before .before .before .before .before .before .before .before .before .before .before .before .before .fits .start))) (c .before .before .before .before .before .before .before .before .put-times .ensures)) (put-put (c .before .before .before .before .put-area .ensures) (c .put-delays .ensures))
+returns c =
+    let s = c .before .before .before .before .before .before .before .before .before .before .before .before .before .before .before in
+    put-put (put-as (ap (λ (z : ℤ). times (s .args .n) z (durationIs (s .args .lasts) (s .args .duration))) (toZ-ofZ {w = w64} (s .fits .start))) (c .before .before .before .before .before .before .before .before .put-times .ensures)) (put-put (c .before .before .before .before .put-area .ensures) (c .put-delays .ensures))
 
 pub put-shown-spec : {M : Type 1} → statement M
 put-shown-spec =

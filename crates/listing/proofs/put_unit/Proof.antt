@@ -23,10 +23,14 @@ put-refused-requires : tie.Need-put-refused-requires
 put-refused-requires c κs = search needs
 
 returns : tie.Need-returns
-returns c = shows-line (c .before .before .before .before .before .before .before .args .n) (c .before .before .before .before .before .before .before .args .start) (durationIs (c .before .before .before .before .before .before .before .args .lasts) (c .before .before .before .before .before .before .before .args .duration)) _ (toZ-ofZ {w = w64} (c .before .before .before .before .before .before .before .fits .start)) _ _ _ _ (c .before .before .before .before .before .measure-spu .ensures .0) (c .before .before .before .s .given .1) (c .put-shown .ensures)
+returns c =
+    let s = c .before .before .before .before .before .before .before in
+    shows-line (s .args .n) (s .args .start) (durationIs (s .args .lasts) (s .args .duration)) _ (toZ-ofZ {w = w64} (s .fits .start)) _ _ _ _ (c .before .before .before .before .before .measure-spu .ensures .0) (c .before .before .before .s .given .1) (c .put-shown .ensures)
 
 returns-2 : tie.Need-returns-2
-returns-2 c = refuses-line (c .before .before .before .before .before .before .before .args .n) (c .before .before .before .before .before .before .before .args .start) (durationIs (c .before .before .before .before .before .before .before .args .lasts) (c .before .before .before .before .before .before .before .args .duration)) _ _ _ _ (c .before .before .before .before .before .measure-spu .ensures .0) (c .before .before .before .number .given .1) (c .put-refused .ensures)
+returns-2 c =
+    let s = c .before .before .before .before .before .before .before in
+    refuses-line (s .args .n) (s .args .start) (durationIs (s .args .lasts) (s .args .duration)) _ _ _ _ (c .before .before .before .before .before .measure-spu .ensures .0) (c .before .before .before .number .given .1) (c .put-refused .ensures)
 
 pub put-unit-spec : {M : Type 1} → statement M
 put-unit-spec =

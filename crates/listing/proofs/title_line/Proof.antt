@@ -8,19 +8,25 @@ no-file-requires : tie.Need-no-file-requires
 no-file-requires c κs = search needs
 
 returns : tie.Need-returns
-returns c = head-none (c .before .before .before .before .before .args .there) (c .before .before .before .before .before .args .text .now) (c .before .before .before .before .before .args .file .now) (c .before .before .before .before .before .args .line .now) (not-there (c .before .before .before .before .before .args .there) (c .before .before .before .before .before .args .text .now) (c .before .before .before .before .before .args .file .now) (c .before .before .if1 .taken)) _ _ _ _ (c .no-file .ensures)
+returns c =
+    let s = c .before .before .before .before .before in
+    head-none (s .args .there) (s .args .text .now) (s .args .file .now) (s .args .line .now) (not-there (s .args .there) (s .args .text .now) (s .args .file .now) (c .before .before .if1 .taken)) _ _ _ _ (c .no-file .ensures)
 
 no-file-requires-2 : tie.Need-no-file-requires-2
 no-file-requires-2 c κs = search needs
 
 returns-2 : tie.Need-returns-2
-returns-2 c = head-none (c .before .before .before .before .before .before .args .there) (c .before .before .before .before .before .before .args .text .now) (c .before .before .before .before .before .before .args .file .now) (c .before .before .before .before .before .before .args .line .now) (long-text (c .before .before .before .before .before .before .args .there) (c .before .before .before .before .before .before .args .text .now) (c .before .before .before .before .before .before .args .file .now) (c .before .before .before .if1 .left) (c .before .before .if2 .taken)) _ _ _ _ (c .no-file2 .ensures)
+returns-2 c =
+    let s = c .before .before .before .before .before .before in
+    head-none (s .args .there) (s .args .text .now) (s .args .file .now) (s .args .line .now) (long-text (s .args .there) (s .args .text .now) (s .args .file .now) (c .before .before .before .if1 .left) (c .before .before .if2 .taken)) _ _ _ _ (c .no-file2 .ensures)
 
 no-file-requires-3 : tie.Need-no-file-requires-3
 no-file-requires-3 c κs = search needs
 
 returns-3 : tie.Need-returns-3
-returns-3 c = head-none (c .before .before .before .before .before .before .before .args .there) (c .before .before .before .before .before .before .before .args .text .now) (c .before .before .before .before .before .before .before .args .file .now) (c .before .before .before .before .before .before .before .args .line .now) (long-file (c .before .before .before .before .before .before .before .args .there) (c .before .before .before .before .before .before .before .args .text .now) (c .before .before .before .before .before .before .before .args .file .now) (c .before .before .before .before .if1 .left) (c .before .before .before .if2 .left) (c .before .before .if3 .taken)) _ _ _ _ (c .no-file3 .ensures)
+returns-3 c =
+    let s = c .before .before .before .before .before .before .before in
+    head-none (s .args .there) (s .args .text .now) (s .args .file .now) (s .args .line .now) (long-file (s .args .there) (s .args .text .now) (s .args .file .now) (c .before .before .before .before .if1 .left) (c .before .before .before .if2 .left) (c .before .before .if3 .taken)) _ _ _ _ (c .no-file3 .ensures)
 
 parse-idx-requires : tie.Need-parse-idx-requires
 parse-idx-requires c κs = search needs
@@ -29,13 +35,19 @@ no-index-requires : tie.Need-no-index-requires
 no-index-requires c κs = search needs
 
 returns-4 : tie.Need-returns-4
-returns-4 c = head-refused (c .before .before .before .before .before .before .before .before .before .before .before .before .args .there) (c .before .before .before .before .before .before .before .before .before .before .before .before .args .text .now) (c .before .before .before .before .before .before .before .before .before .before .before .before .args .file .now) (c .before .before .before .before .before .before .before .before .before .before .before .before .args .line .now) (can-read (c .before .before .before .before .before .before .before .before .before .before .before .before .args .there) (c .before .before .before .before .before .before .before .before .before .before .before .before .args .text .now) (c .before .before .before .before .before .before .before .before .before .before .before .before .args .file .now) (c .before .before .before .before .before .before .before .before .before .if1 .left) (c .before .before .before .before .before .before .before .before .if2 .left) (c .before .before .before .before .before .before .before .if3 .left)) (c .before .before .before .before .before .before .before .before .if2 .left) (c .before .before .before .before .before .before .before .before .before .before .before .before .args .starts .now) (c .before .before .before .before .before .before .before .before .before .before .before .before .args .positions .now) (search needs) (search needs) _ _ _ (c .before .before .before .before .parse-idx .ensures .0) (c .before .before .if4 .taken) _ _ (c .no-index .ensures)
+returns-4 c =
+    let s = c .before .before .before .before .before .before .before .before .before .before .before .before in
+    let t = c .before .before .before .before .before .before .before .before in
+    head-refused (s .args .there) (s .args .text .now) (s .args .file .now) (s .args .line .now) (can-read (s .args .there) (s .args .text .now) (s .args .file .now) (c .before .before .before .before .before .before .before .before .before .if1 .left) (t .if2 .left) (c .before .before .before .before .before .before .before .if3 .left)) (t .if2 .left) (s .args .starts .now) (s .args .positions .now) (search needs) (search needs) _ _ _ (c .before .before .before .before .parse-idx .ensures .0) (c .before .before .if4 .taken) _ _ (c .no-index .ensures)
 
 counted-requires : tie.Need-counted-requires
 counted-requires c κs = search needs
 
 returns-5 : tie.Need-returns-5
-returns-5 c = head-counted (c .before .before .before .before .before .before .before .before .before .before .before .before .args .there) (c .before .before .before .before .before .before .before .before .before .before .before .before .args .text .now) (c .before .before .before .before .before .before .before .before .before .before .before .before .args .file .now) (c .before .before .before .before .before .before .before .before .before .before .before .before .args .line .now) (can-read (c .before .before .before .before .before .before .before .before .before .before .before .before .args .there) (c .before .before .before .before .before .before .before .before .before .before .before .before .args .text .now) (c .before .before .before .before .before .before .before .before .before .before .before .before .args .file .now) (c .before .before .before .before .before .before .before .before .before .if1 .left) (c .before .before .before .before .before .before .before .before .if2 .left) (c .before .before .before .before .before .before .before .if3 .left)) (c .before .before .before .before .before .before .before .before .if2 .left) (c .before .before .before .before .before .before .before .before .before .before .before .before .args .starts .now) (c .before .before .before .before .before .before .before .before .before .before .before .before .args .positions .now) (search needs) (search needs) _ _ _ (c .before .before .before .before .parse-idx .ensures .0) (c .before .before .if4 .left) _ _ (c .counted .ensures)
+returns-5 c =
+    let s = c .before .before .before .before .before .before .before .before .before .before .before .before in
+    let t = c .before .before .before .before .before .before .before .before in
+    head-counted (s .args .there) (s .args .text .now) (s .args .file .now) (s .args .line .now) (can-read (s .args .there) (s .args .text .now) (s .args .file .now) (c .before .before .before .before .before .before .before .before .before .if1 .left) (t .if2 .left) (c .before .before .before .before .before .before .before .if3 .left)) (t .if2 .left) (s .args .starts .now) (s .args .positions .now) (search needs) (search needs) _ _ _ (c .before .before .before .before .parse-idx .ensures .0) (c .before .before .if4 .left) _ _ (c .counted .ensures)
 
 pub title-line-spec : {M : Type 1} → statement M
 title-line-spec =

@@ -47,7 +47,10 @@ is-between-requires : tie.Need-is-between-requires Inv-loop μ-loop
 is-between-requires c κs = search needs
 
 returns : tie.Need-returns Inv-loop μ-loop
-returns c = line-found (c .before .before .before .before .before .before .before .args .y) (c .before .before .before .before .before .loop .at) (now (c .before .before .before .before .before .before .before .args .words)) (omega (arith, c .before .before .before .before .before .loop .inv .inside, c .before .before .before .before .loop-test .taken, c .before .before .before .before .before .before .before .good .0)) (sym (c .before .is-between .ensures) ∙ c .if1 .taken) ∙ c .before .before .before .before .before .loop .inv .goes
+returns c =
+    let s = c .before .before .before .before .before .before .before in
+    let t = c .before .before .before .before .before in
+    line-found (s .args .y) (t .loop .at) (now (s .args .words)) (omega (arith, t .loop .inv .inside, c .before .before .before .before .loop-test .taken, s .good .0)) (sym (c .before .is-between .ensures) ∙ c .if1 .taken) ∙ t .loop .inv .goes
 
 add-next : tie.Need-add-next Inv-loop μ-loop
 add-next c = omega (arith, c .before .before .before .before .before .loop .inv .inside, c .before .before .before .before .loop-test .taken, c .before .before .before .before .before .before .before .good .0)

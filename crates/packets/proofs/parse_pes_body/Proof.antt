@@ -34,7 +34,9 @@ part-result-end-2 : tie.Need-part-result-end-2
 part-result-end-2 c = search needs
 
 returns : tie.Need-returns
-returns c = (rest-at _ _ (sym (c .before .before .body .given .1) ∙ c .before .before .before .before .body-start .ensures) .rest, rest-at _ _ (sym (c .before .before .body .given .1) ∙ c .before .before .before .before .body-start .ensures) .found)
+returns c =
+    let s = c .before .before .before .before in
+    (rest-at _ _ (sym (c .before .before .body .given .1) ∙ s .body-start .ensures) .rest, rest-at _ _ (sym (c .before .before .body .given .1) ∙ s .body-start .ensures) .found)
 
 returns-2 : tie.Need-returns-2
 returns-2 c = rest-none _ _ (sym (c .before .enum-told .given .1) ∙ c .before .before .before .body-start .ensures)

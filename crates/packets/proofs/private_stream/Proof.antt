@@ -33,10 +33,14 @@ parse-pes-body-requires : tie.Need-parse-pes-body-requires
 parse-pes-body-requires c κs = search needs
 
 returns-2 : tie.Need-returns-2
-returns-2 c = let h = c .before .before .before .before .before .before .pre .0 in let s = c .before .before .before .before .before .before .pre .1 in private-none (c .before .before .before .before .before .before .args .file .now) (c .before .before .before .before .before .before .args .at) (c .before .before .before .before .before .before .args .at + 6 + c .before .before .before .before .before .before .args .size) (omega arith) (omega (arith, c .before .before .before .before .if1 .left)) _ _ _ (part-slice (c .before .before .before .before .before .before .args .at + 6) (c .before .before .before .before .before .before .args .at + 6 + c .before .before .before .before .before .before .args .size) (c .before .before .before .before .before .before .args .file .now)) (c .before .parse-pes-body .ensures .0) (c .before .parse-pes-body .ensures .1) (not-true _ (c .if2 .taken))
+returns-2 c =
+    let t = c .before .before .before .before .before .before in
+    let h = t .pre .0 in let s = t .pre .1 in private-none (t .args .file .now) (t .args .at) (t .args .at + 6 + t .args .size) (omega arith) (omega (arith, c .before .before .before .before .if1 .left)) _ _ _ (part-slice (t .args .at + 6) (t .args .at + 6 + t .args .size) (t .args .file .now)) (c .before .parse-pes-body .ensures .0) (c .before .parse-pes-body .ensures .1) (not-true _ (c .if2 .taken))
 
 returns-3 : tie.Need-returns-3
-returns-3 c = let h = c .before .before .before .before .before .before .before .pre .0 in let s = c .before .before .before .before .before .before .before .pre .1 in private-empty (c .before .before .before .before .before .before .before .args .file .now) (c .before .before .before .before .before .before .before .args .at) (c .before .before .before .before .before .before .before .args .at + 6 + c .before .before .before .before .before .before .before .args .size) (omega arith) (omega (arith, c .before .before .before .before .before .if1 .left)) _ _ _ (part-slice (c .before .before .before .before .before .before .before .args .at + 6) (c .before .before .before .before .before .before .before .args .at + 6 + c .before .before .before .before .before .before .before .args .size) (c .before .before .before .before .before .before .before .args .file .now)) (c .before .before .parse-pes-body .ensures .0) (c .before .before .parse-pes-body .ensures .1) (not-false _ (c .before .if2 .left)) (c .if3 .taken)
+returns-3 c =
+    let t = c .before .before .before .before .before .before .before in
+    let h = t .pre .0 in let s = t .pre .1 in private-empty (t .args .file .now) (t .args .at) (t .args .at + 6 + t .args .size) (omega arith) (omega (arith, c .before .before .before .before .before .if1 .left)) _ _ _ (part-slice (t .args .at + 6) (t .args .at + 6 + t .args .size) (t .args .file .now)) (c .before .before .parse-pes-body .ensures .0) (c .before .before .parse-pes-body .ensures .1) (not-false _ (c .before .if2 .left)) (c .if3 .taken)
 
 shared-slice-read-is-subpicture : tie.Need-shared-slice-read-is-subpicture
 shared-slice-read-is-subpicture c = omega (arith, c .before .if3 .left)
@@ -48,13 +52,22 @@ sub-t20 : tie.Need-sub-t20
 sub-t20 c = omega (arith, c .before .before .before .if3 .left)
 
 sub-t21 : tie.Need-sub-t21
-sub-t21 c = let h = c .before .before .before .before .before .before .before .before .before .before .pre .0 in let s = c .before .before .before .before .before .before .before .before .before .before .pre .1 in let l = private-fits (c .before .before .before .before .before .before .before .before .before .before .args .file .now) (c .before .before .before .before .before .before .before .before .before .before .args .at) (c .before .before .before .before .before .before .before .before .before .before .args .at + 6 + c .before .before .before .before .before .before .before .before .before .before .args .size) (omega arith) (omega (arith, c .before .before .before .before .before .before .before .before .if1 .left)) _ _ _ (part-slice (c .before .before .before .before .before .before .before .before .before .before .args .at + 6) (c .before .before .before .before .before .before .before .before .before .before .args .at + 6 + c .before .before .before .before .before .before .before .before .before .before .args .size) (c .before .before .before .before .before .before .before .before .before .before .args .file .now)) (c .before .before .before .before .before .parse-pes-body .ensures .0) (c .before .before .before .before .before .parse-pes-body .ensures .1) (not-false _ (c .before .before .before .before .if2 .left)) in omega (arith, c .before .before .before .if3 .left)
+sub-t21 c =
+    let t = c .before .before .before .before .before .before .before .before .before .before in
+    let u = c .before .before .before .before .before in
+    let h = t .pre .0 in let s = t .pre .1 in let l = private-fits (t .args .file .now) (t .args .at) (t .args .at + 6 + t .args .size) (omega arith) (omega (arith, c .before .before .before .before .before .before .before .before .if1 .left)) _ _ _ (part-slice (t .args .at + 6) (t .args .at + 6 + t .args .size) (t .args .file .now)) (u .parse-pes-body .ensures .0) (u .parse-pes-body .ensures .1) (not-false _ (c .before .before .before .before .if2 .left)) in omega (arith, c .before .before .before .if3 .left)
 
 returns-4 : tie.Need-returns-4
-returns-4 c = let h = c .before .before .before .before .before .before .before .before .before .before .pre .0 in let s = c .before .before .before .before .before .before .before .before .before .before .pre .1 in private-keeps (c .before .before .before .before .before .before .before .before .before .before .args .file .now) (c .before .before .before .before .before .before .before .before .before .before .args .at) (c .before .before .before .before .before .before .before .before .before .before .args .at + 6 + c .before .before .before .before .before .before .before .before .before .before .args .size) (omega arith) (omega (arith, c .before .before .before .before .before .before .before .before .if1 .left)) _ _ _ (part-slice (c .before .before .before .before .before .before .before .before .before .before .args .at + 6) (c .before .before .before .before .before .before .before .before .before .before .args .at + 6 + c .before .before .before .before .before .before .before .before .before .before .args .size) (c .before .before .before .before .before .before .before .before .before .before .args .file .now)) (c .before .before .before .before .before .parse-pes-body .ensures .0) (c .before .before .before .before .before .parse-pes-body .ensures .1) (not-false _ (c .before .before .before .before .if2 .left)) (omega (arith, c .before .before .before .if3 .left)) (sym (c .before .is-subpicture .ensures) ∙ c .if4 .taken)
+returns-4 c =
+    let t = c .before .before .before .before .before .before .before .before .before .before in
+    let u = c .before .before .before .before .before in
+    let h = t .pre .0 in let s = t .pre .1 in private-keeps (t .args .file .now) (t .args .at) (t .args .at + 6 + t .args .size) (omega arith) (omega (arith, c .before .before .before .before .before .before .before .before .if1 .left)) _ _ _ (part-slice (t .args .at + 6) (t .args .at + 6 + t .args .size) (t .args .file .now)) (u .parse-pes-body .ensures .0) (u .parse-pes-body .ensures .1) (not-false _ (c .before .before .before .before .if2 .left)) (omega (arith, c .before .before .before .if3 .left)) (sym (c .before .is-subpicture .ensures) ∙ c .if4 .taken)
 
 returns-5 : tie.Need-returns-5
-returns-5 c = let h = c .before .before .before .before .before .before .before .before .before .before .pre .0 in let s = c .before .before .before .before .before .before .before .before .before .before .pre .1 in private-other (c .before .before .before .before .before .before .before .before .before .before .args .file .now) (c .before .before .before .before .before .before .before .before .before .before .args .at) (c .before .before .before .before .before .before .before .before .before .before .args .at + 6 + c .before .before .before .before .before .before .before .before .before .before .args .size) (omega arith) (omega (arith, c .before .before .before .before .before .before .before .before .if1 .left)) _ _ _ (part-slice (c .before .before .before .before .before .before .before .before .before .before .args .at + 6) (c .before .before .before .before .before .before .before .before .before .before .args .at + 6 + c .before .before .before .before .before .before .before .before .before .before .args .size) (c .before .before .before .before .before .before .before .before .before .before .args .file .now)) (c .before .before .before .before .before .parse-pes-body .ensures .0) (c .before .before .before .before .before .parse-pes-body .ensures .1) (not-false _ (c .before .before .before .before .if2 .left)) (omega (arith, c .before .before .before .if3 .left)) (sym (c .before .is-subpicture .ensures) ∙ c .if4 .left)
+returns-5 c =
+    let t = c .before .before .before .before .before .before .before .before .before .before in
+    let u = c .before .before .before .before .before in
+    let h = t .pre .0 in let s = t .pre .1 in private-other (t .args .file .now) (t .args .at) (t .args .at + 6 + t .args .size) (omega arith) (omega (arith, c .before .before .before .before .before .before .before .before .if1 .left)) _ _ _ (part-slice (t .args .at + 6) (t .args .at + 6 + t .args .size) (t .args .file .now)) (u .parse-pes-body .ensures .0) (u .parse-pes-body .ensures .1) (not-false _ (c .before .before .before .before .if2 .left)) (omega (arith, c .before .before .before .if3 .left)) (sym (c .before .is-subpicture .ensures) ∙ c .if4 .left)
 
 pub private-stream-spec : {M : Type 1} → statement M
 private-stream-spec =

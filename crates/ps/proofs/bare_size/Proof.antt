@@ -27,16 +27,22 @@ word-of-requires : tie.Need-word-of-requires
 word-of-requires c κs = search needs
 
 returns-2 : tie.Need-returns-2
-returns-2 c = let h = c .before .before .before .before .before .before .pre in let l = c .before .before .before .before .if1 .left in let e = c .before .word-of .ensures ∙ word-at (c .before .before .before .before .before .before .args .file .now) (c .before .before .before .before .before .before .args .at) (c .before .before .before .before .before .before .args .at + 1) refl in bare-small (c .before .before .before .before .before .before .args .file .now) (c .before .before .before .before .before .before .args .at) (omega arith) (omega (arith, c .if2 .taken))
+returns-2 c =
+    let s = c .before .before .before .before .before .before in
+    let h = s .pre in let l = c .before .before .before .before .if1 .left in let e = c .before .word-of .ensures ∙ word-at (s .args .file .now) (s .args .at) (s .args .at + 1) refl in bare-small (s .args .file .now) (s .args .at) (omega arith) (omega (arith, c .if2 .taken))
 
 sub-if3 : tie.Need-sub-if3
 sub-if3 c = c .before .before .before .before .before .before .pre
 
 returns-3 : tie.Need-returns-3
-returns-3 c = let h = c .before .before .before .before .before .before .before .pre in let l = c .before .before .before .before .before .if1 .left in let e = c .before .before .word-of .ensures ∙ word-at (c .before .before .before .before .before .before .before .args .file .now) (c .before .before .before .before .before .before .before .args .at) (c .before .before .before .before .before .before .before .args .at + 1) refl in bare-long (c .before .before .before .before .before .before .before .args .file .now) (c .before .before .before .before .before .before .before .args .at) (omega arith) (omega (arith, c .before .if2 .left)) (omega (arith, c .if3 .taken))
+returns-3 c =
+    let s = c .before .before .before .before .before .before .before in
+    let h = s .pre in let l = c .before .before .before .before .before .if1 .left in let e = c .before .before .word-of .ensures ∙ word-at (s .args .file .now) (s .args .at) (s .args .at + 1) refl in bare-long (s .args .file .now) (s .args .at) (omega arith) (omega (arith, c .before .if2 .left)) (omega (arith, c .if3 .taken))
 
 returns-4 : tie.Need-returns-4
-returns-4 c = let h = c .before .before .before .before .before .before .before .pre in let l = c .before .before .before .before .before .if1 .left in let e = c .before .before .word-of .ensures ∙ word-at (c .before .before .before .before .before .before .before .args .file .now) (c .before .before .before .before .before .before .before .args .at) (c .before .before .before .before .before .before .before .args .at + 1) refl in e ∙ bare-yes (c .before .before .before .before .before .before .before .args .file .now) (c .before .before .before .before .before .before .before .args .at) (omega arith) (omega (arith, c .before .if2 .left)) (omega (arith, c .if3 .left))
+returns-4 c =
+    let s = c .before .before .before .before .before .before .before in
+    let h = s .pre in let l = c .before .before .before .before .before .if1 .left in let e = c .before .before .word-of .ensures ∙ word-at (s .args .file .now) (s .args .at) (s .args .at + 1) refl in e ∙ bare-yes (s .args .file .now) (s .args .at) (omega arith) (omega (arith, c .before .if2 .left)) (omega (arith, c .if3 .left))
 
 pub bare-size-spec : {M : Type 1} → statement M
 bare-size-spec =

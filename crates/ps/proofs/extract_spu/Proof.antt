@@ -13,7 +13,9 @@ bare-size-requires : tie.Need-bare-size-requires
 bare-size-requires c κs = omega (arith, c .if1 .left)
 
 returns-2 : tie.Need-returns-2
-returns-2 c = claimed (unit-bare (c .before .before .before .before .before .args .file .now) (c .before .before .before .before .before .args .position) (c .before .before .before .before .before .args .scratch .now) (c .before .before .if1 .left) _ (c .before .bare-size .ensures) (c .if2 .taken))
+returns-2 c =
+    let s = c .before .before .before .before .before in
+    claimed (unit-bare (s .args .file .now) (s .args .position) (s .args .scratch .now) (c .before .before .if1 .left) _ (c .before .bare-size .ensures) (c .if2 .taken))
 
 extract-spu-from-ps-requires : tie.Need-extract-spu-from-ps-requires
 extract-spu-from-ps-requires c κs = search needs
@@ -22,7 +24,9 @@ same-length : tie.Need-same-length
 same-length c = search needs
 
 returns-3 : tie.Need-returns-3
-returns-3 c = claimed (unit-joined (c .before .before .before .before .before .before .before .before .before .args .file .now) (c .before .before .before .before .before .before .before .before .before .args .position) (c .before .before .before .before .before .before .before .before .before .args .scratch .now) (c .before .before .before .before .before .before .if1 .left) _ (c .before .before .before .before .before .bare-size .ensures) (λ k. omega (arith, c .before .before .before .before .if2 .left)) _ _ (c .before .before .extract-spu-from-ps .ensures))
+returns-3 c =
+    let s = c .before .before .before .before .before .before .before .before .before in
+    claimed (unit-joined (s .args .file .now) (s .args .position) (s .args .scratch .now) (c .before .before .before .before .before .before .if1 .left) _ (c .before .before .before .before .before .bare-size .ensures) (λ k. omega (arith, c .before .before .before .before .if2 .left)) _ _ (c .before .before .extract-spu-from-ps .ensures))
 
 pub extract-spu-spec : {M : Type 1} → statement M
 extract-spu-spec =

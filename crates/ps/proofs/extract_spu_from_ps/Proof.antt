@@ -12,10 +12,14 @@ enum-known-t : tie.Need-enum-known-t
 enum-known-t c = search needs
 
 returns : tie.Need-returns
-returns c = joined-short (c .before .before .before .before .before .before .before .args .file .now) (c .before .before .before .before .before .before .before .args .from) (c .before .before .before .before .before .before .before .args .scratch .now) _ (sym (c .before .before .t .given .1) ∙ c .before .before .before .before .measure-packets .ensures) (c .if1 .taken)
+returns c =
+    let s = c .before .before .before .before .before .before .before in
+    joined-short (s .args .file .now) (s .args .from) (s .args .scratch .now) _ (sym (c .before .before .t .given .1) ∙ c .before .before .before .before .measure-packets .ensures) (c .if1 .taken)
 
 join-packets-requires : tie.Need-join-packets-requires
-join-packets-requires c κs = let h = holds-list (c .before .before .before .before .before .before .before .before .args .file .now) (c .before .before .before .before .before .before .before .before .args .from) _ (sym (c .before .before .before .t .given .1) ∙ c .before .before .before .before .before .measure-packets .ensures) in (h .0, h .1, h .2, c .before .if1 .left)
+join-packets-requires c κs =
+    let s = c .before .before .before .before .before .before .before .before in
+    let h = holds-list (s .args .file .now) (s .args .from) _ (sym (c .before .before .before .t .given .1) ∙ c .before .before .before .before .before .measure-packets .ensures) in (h .0, h .1, h .2, c .before .if1 .left)
 
 enum-known-n : tie.Need-enum-known-n
 enum-known-n c = search needs
@@ -24,10 +28,14 @@ same-length : tie.Need-same-length
 same-length c = search needs
 
 returns-2 : tie.Need-returns-2
-returns-2 c = joined-fits (c .before .before .before .before .before .before .before .before .before .before .before .args .file .now) (c .before .before .before .before .before .before .before .before .before .before .before .args .from) (c .before .before .before .before .before .before .before .before .before .before .before .args .scratch .now) _ (sym (c .before .before .before .before .before .before .t .given .1) ∙ c .before .before .before .before .before .before .before .before .measure-packets .ensures) (c .before .before .before .before .if1 .left) _ (c .before .before .join-packets .ensures)
+returns-2 c =
+    let s = c .before .before .before .before .before .before .before .before .before .before .before in
+    joined-fits (s .args .file .now) (s .args .from) (s .args .scratch .now) _ (sym (c .before .before .before .before .before .before .t .given .1) ∙ c .before .before .before .before .before .before .before .before .measure-packets .ensures) (c .before .before .before .before .if1 .left) _ (c .before .before .join-packets .ensures)
 
 returns-3 : tie.Need-returns-3
-returns-3 c = joined-refused (c .before .before .before .before .before .before .args .file .now) (c .before .before .before .before .before .before .args .from) (c .before .before .before .before .before .before .args .scratch .now) _ (sym (c .before .n .given .1) ∙ c .before .before .before .measure-packets .ensures)
+returns-3 c =
+    let s = c .before .before .before .before .before .before in
+    joined-refused (s .args .file .now) (s .args .from) (s .args .scratch .now) _ (sym (c .before .n .given .1) ∙ c .before .before .before .measure-packets .ensures)
 
 pub extract-spu-from-ps-spec : {M : Type 1} → statement M
 extract-spu-from-ps-spec =

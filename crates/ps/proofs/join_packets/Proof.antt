@@ -31,10 +31,15 @@ enum-told : tie.Need-enum-told Inv-loop μ-loop
 enum-told c = search needs
 
 same-length : tie.Need-same-length Inv-loop μ-loop
-same-length c = c .before .before .before .before .loop .inv (c .before .before .before .before .before .before .before .pre .0) (c .before .before .before .before .before .before .before .pre .1) (c .before .before .before .before .before .before .before .pre .2) .size
+same-length c =
+    let s = c .before .before .before .before .before .before .before in
+    c .before .before .before .before .loop .inv (s .pre .0) (s .pre .1) (s .pre .2) .size
 
 returns : tie.Need-returns Inv-loop μ-loop
-returns c = absurd (joining-refused (c .before .before .before .before .before .before .before .args .file .now) (joined (c .before .before .before .before .before .before .before .pre .0)) (c .before .before .before .before .before .before .before .args .t) (omega (arith, c .before .before .before .before .before .before .before .pre .2, unit-within (c .before .before .before .before .before .before .before .args .file .now) (c .before .before .before .before .before .before .before .args .from) (c .before .before .before .before .before .before .before .pre .0) (c .before .before .before .before .before .before .before .pre .1))) _ _ _ _ (c .before .before .before .before .loop .inv (c .before .before .before .before .before .before .before .pre .0) (c .before .before .before .before .before .before .before .pre .1) (c .before .before .before .before .before .before .before .pre .2)) (c .before .before .before .loop-test .taken) _ (refused-told (c .before .before .before .before .before .before .before .args .file .now) (c .before .before .before .before .loop .at) _ (c .before .before .read-packet .ensures) _ (c .enum-told .given .1)))
+returns c =
+    let s = c .before .before .before .before .before .before .before in
+    let t = c .before .before .before .before in
+    absurd (joining-refused (s .args .file .now) (joined (s .pre .0)) (s .args .t) (omega (arith, s .pre .2, unit-within (s .args .file .now) (s .args .from) (s .pre .0) (s .pre .1))) _ _ _ _ (t .loop .inv (s .pre .0) (s .pre .1) (s .pre .2)) (c .before .before .before .loop-test .taken) _ (refused-told (s .args .file .now) (t .loop .at) _ (c .before .before .read-packet .ensures) _ (c .enum-told .given .1)))
 
 enum-known-end : tie.Need-enum-known-end Inv-loop μ-loop
 enum-known-end c = search needs
@@ -43,7 +48,10 @@ loop-less : tie.Need-loop-less Inv-loop μ-loop
 loop-less c = let u = passes-told (c .before .before .before .before .before .before .before .before .args .file .now) (c .before .before .before .before .before .loop .at) _ (c .before .before .before .read-packet .ensures) _ (c .before .end .given .1) in let l = u .after in let m = u .inside in omega arith
 
 loop-again : tie.Need-loop-again Inv-loop μ-loop
-loop-again c = λ ps q r. joining-passes (c .before .before .before .before .before .before .before .before .args .file .now) (joined ps) (c .before .before .before .before .before .before .before .before .args .t) (omega (arith, r, unit-within (c .before .before .before .before .before .before .before .before .args .file .now) (c .before .before .before .before .before .before .before .before .args .from) ps q)) _ _ _ _ (c .before .before .before .before .before .loop .inv ps q r) (c .before .before .before .before .loop-test .taken) _ _ (passes-told (c .before .before .before .before .before .before .before .before .args .file .now) (c .before .before .before .before .before .loop .at) _ (c .before .before .before .read-packet .ensures) _ (c .before .end .given .1)) refl
+loop-again c =
+    let s = c .before .before .before .before .before .before .before .before in
+    let t = c .before .before .before .before .before in
+    λ ps q r. joining-passes (s .args .file .now) (joined ps) (s .args .t) (omega (arith, r, unit-within (s .args .file .now) (s .args .from) ps q)) _ _ _ _ (t .loop .inv ps q r) (c .before .before .before .before .loop-test .taken) _ _ (passes-told (s .args .file .now) (t .loop .at) _ (c .before .before .before .read-packet .ensures) _ (c .before .end .given .1)) refl
 
 enum-known-a : tie.Need-enum-known-a Inv-loop μ-loop
 enum-known-a c = search needs
@@ -58,22 +66,34 @@ lesser-requires : tie.Need-lesser-requires Inv-loop μ-loop
 lesser-requires c κs = search needs
 
 copy-requires : tie.Need-copy-requires Inv-loop μ-loop
-copy-requires c κs = let u = keeps-told (c .before .before .before .before .before .before .before .before .before .before .args .file .now) (c .before .before .before .before .before .before .before .loop .at) _ (c .before .before .before .before .before .read-packet .ensures) _ _ (c .before .before .before .a .given .1) in let i = u .inside in let o = u .upto in let z = c .before .before .before .before .before .before .before .loop .inv (c .before .before .before .before .before .before .before .before .before .before .pre .0) (c .before .before .before .before .before .before .before .before .before .before .pre .1) (c .before .before .before .before .before .before .before .before .before .before .pre .2) .size in let p = c .before .before .before .before .before .before .before .before .before .before .pre .3 in let m = c .before .lesser .ensures in (omega (arith, c .before .before .before .before .before .before .loop-test .taken), omega (arith, c .before .before .before .before .before .before .loop-test .taken))
+copy-requires c κs =
+    let s = c .before .before .before .before .before .before .before .before .before .before in
+    let t = c .before .before .before .before .before .before .before in
+    let u = keeps-told (s .args .file .now) (t .loop .at) _ (c .before .before .before .before .before .read-packet .ensures) _ _ (c .before .before .before .a .given .1) in let i = u .inside in let o = u .upto in let z = t .loop .inv (s .pre .0) (s .pre .1) (s .pre .2) .size in let p = s .pre .3 in let m = c .before .lesser .ensures in (omega (arith, c .before .before .before .before .before .before .loop-test .taken), omega (arith, c .before .before .before .before .before .before .loop-test .taken))
 
 add-have : tie.Need-add-have Inv-loop μ-loop
-add-have c = let m = c .before .before .before .before .lesser .ensures in let p = c .before .before .before .before .before .before .before .before .before .before .before .before .before .pre .3 in omega (arith, c .before .before .before .before .before .before .before .before .before .loop-test .taken, c .before .before .before .before .before .before .before .before .before .before .before .before .before .fits .t)
+add-have c =
+    let s = c .before .before .before .before .before .before .before .before .before .before .before .before .before in
+    let m = c .before .before .before .before .lesser .ensures in let p = s .pre .3 in omega (arith, c .before .before .before .before .before .before .before .before .before .loop-test .taken, s .fits .t)
 
 loop-less-2 : tie.Need-loop-less-2 Inv-loop μ-loop
 loop-less-2 c = let u = keeps-told (c .before .before .before .before .before .before .before .before .before .before .before .before .before .args .file .now) (c .before .before .before .before .before .before .before .before .before .before .loop .at) _ (c .before .before .before .before .before .before .before .before .read-packet .ensures) _ _ (c .before .before .before .before .before .before .a .given .1) in let l = u .after in let m = u .inside in let o = u .upto in omega arith
 
 loop-again-2 : tie.Need-loop-again-2 Inv-loop μ-loop
-loop-again-2 c = λ ps q r. joining-goes (c .before .before .before .before .before .before .before .before .before .before .before .before .before .args .file .now) (joined ps) (c .before .before .before .before .before .before .before .before .before .before .before .before .before .args .t) (omega (arith, r, unit-within (c .before .before .before .before .before .before .before .before .before .before .before .before .before .args .file .now) (c .before .before .before .before .before .before .before .before .before .before .before .before .before .args .from) ps q)) _ _ _ _ (c .before .before .before .before .before .before .before .before .before .before .loop .inv ps q r) (c .before .before .before .before .before .before .before .before .before .loop-test .taken) _ _ (keeps-told (c .before .before .before .before .before .before .before .before .before .before .before .before .before .args .file .now) (c .before .before .before .before .before .before .before .before .before .before .loop .at) _ (c .before .before .before .before .before .before .before .before .read-packet .ensures) _ _ (c .before .before .before .before .before .before .a .given .1)) _ (c .before .before .before .before .lesser .ensures) _ (c .before .before .copy .ensures)
+loop-again-2 c =
+    let s = c .before .before .before .before .before .before .before .before .before .before .before .before .before in
+    let t = c .before .before .before .before .before .before .before .before .before .before in
+    λ ps q r. joining-goes (s .args .file .now) (joined ps) (s .args .t) (omega (arith, r, unit-within (s .args .file .now) (s .args .from) ps q)) _ _ _ _ (t .loop .inv ps q r) (c .before .before .before .before .before .before .before .before .before .loop-test .taken) _ _ (keeps-told (s .args .file .now) (t .loop .at) _ (c .before .before .before .before .before .before .before .before .read-packet .ensures) _ _ (c .before .before .before .before .before .before .a .given .1)) _ (c .before .before .before .before .lesser .ensures) _ (c .before .before .copy .ensures)
 
 same-length-2 : tie.Need-same-length-2 Inv-loop μ-loop
-same-length-2 c = c .before .loop .inv (c .before .before .before .before .pre .0) (c .before .before .before .before .pre .1) (c .before .before .before .before .pre .2) .size
+same-length-2 c =
+    let s = c .before .before .before .before in
+    c .before .loop .inv (s .pre .0) (s .pre .1) (s .pre .2) .size
 
 returns-2 : tie.Need-returns-2 Inv-loop μ-loop
-returns-2 c = λ ps q. let r = c .before .before .before .before .pre .2 ∙ ap (λ (l : List Packet). length (unitOf (packets l))) (ok-injective (sym (c .before .before .before .before .pre .1) ∙ q)) in joining-ends _ _ ps q _ _ _ _ _ r (c .before .loop .inv ps q r) (c .loop-test .left)
+returns-2 c =
+    let s = c .before .before .before .before in
+    λ ps q. let r = s .pre .2 ∙ ap (λ (l : List Packet). length (unitOf (packets l))) (ok-injective (sym (s .pre .1) ∙ q)) in joining-ends _ _ ps q _ _ _ _ _ r (c .before .loop .inv ps q r) (c .loop-test .left)
 
 pub join-packets-spec : {M : Type 1} → statement M
 join-packets-spec =

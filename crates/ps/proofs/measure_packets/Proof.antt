@@ -28,7 +28,9 @@ enum-known-n : tie.Need-enum-known-n Inv-loop μ-loop
 enum-known-n c = search needs
 
 returns : tie.Need-returns Inv-loop μ-loop
-returns c = measuring-refused _ _ _ _ _ _ (c .before .before .before .before .loop .inv) _ (refused-told (c .before .before .before .before .before .before .args .file .now) (c .before .before .before .before .loop .at) _ (c .before .before .before .read-packet .ensures) _ (c .before .n .given .1))
+returns c =
+    let s = c .before .before .before .before in
+    measuring-refused _ _ _ _ _ _ (s .loop .inv) _ (refused-told (c .before .before .before .before .before .before .args .file .now) (s .loop .at) _ (c .before .before .before .read-packet .ensures) _ (c .before .n .given .1))
 
 enum-known-end : tie.Need-enum-known-end Inv-loop μ-loop
 enum-known-end c = search needs
@@ -37,7 +39,9 @@ loop-less : tie.Need-loop-less Inv-loop μ-loop
 loop-less c = let t = passes-told (c .before .before .before .before .before .before .args .file .now) (c .before .before .before .before .loop .at) _ (c .before .before .before .read-packet .ensures) _ (c .before .end .given .1) in let l = t .after in let m = t .inside in omega arith
 
 loop-again : tie.Need-loop-again Inv-loop μ-loop
-loop-again c = measuring-passes _ _ _ _ _ _ (c .before .before .before .before .loop .inv) _ (passes-told (c .before .before .before .before .before .before .args .file .now) (c .before .before .before .before .loop .at) _ (c .before .before .before .read-packet .ensures) _ (c .before .end .given .1))
+loop-again c =
+    let s = c .before .before .before .before in
+    measuring-passes _ _ _ _ _ _ (s .loop .inv) _ (passes-told (c .before .before .before .before .before .before .args .file .now) (s .loop .at) _ (c .before .before .before .read-packet .ensures) _ (c .before .end .given .1))
 
 enum-known-a : tie.Need-enum-known-a Inv-loop μ-loop
 enum-known-a c = search needs
@@ -52,25 +56,33 @@ sub-have : tie.Need-sub-have Inv-loop μ-loop
 sub-have c = let t = keeps-told (c .before .before .before .before .before .before .before .before .args .file .now) (c .before .before .before .before .before .before .loop .at) _ (c .before .before .before .before .before .read-packet .ensures) _ _ (c .before .before .before .a .given .1) in t .upto
 
 add-have : tie.Need-add-have Inv-loop μ-loop
-add-have c = let t = keeps-told (c .before .before .before .before .before .before .before .before .args .file .now) (c .before .before .before .before .before .before .loop .at) _ (c .before .before .before .before .before .read-packet .ensures) _ _ (c .before .before .before .a .given .1) in let l = t .inside in let m = t .after in let o = c .before .before .before .before .before .before .loop .inv .low in omega arith
+add-have c =
+    let s = c .before .before .before .before .before .before in
+    let t = keeps-told (c .before .before .before .before .before .before .before .before .args .file .now) (s .loop .at) _ (c .before .before .before .before .before .read-packet .ensures) _ _ (c .before .before .before .a .given .1) in let l = t .inside in let m = t .after in let o = s .loop .inv .low in omega arith
 
 word-of-requires : tie.Need-word-of-requires Inv-loop μ-loop
 word-of-requires c κs = search needs
 
 returns-2 : tie.Need-returns-2 Inv-loop μ-loop
-returns-2 c = measuring-done _ _ _ _ _ _ (c .before .before .before .before .before .before .before .before .before .loop .inv) _ _ (keeps-told (c .before .before .before .before .before .before .before .before .before .before .before .args .file .now) (c .before .before .before .before .before .before .before .before .before .loop .at) _ (c .before .before .before .before .before .before .before .before .read-packet .ensures) _ _ (c .before .before .before .before .before .before .a .given .1)) _ _ (c .before .before .before .before .joined-byte .ensures) (c .before .before .before .joined-byte2 .ensures) (c .before .before .if1 .taken) _ (c .before .word-of .ensures) (c .if2 .taken)
+returns-2 c =
+    let s = c .before .before .before .before .before .before .before .before .before in
+    measuring-done _ _ _ _ _ _ (s .loop .inv) _ _ (keeps-told (c .before .before .before .before .before .before .before .before .before .before .before .args .file .now) (s .loop .at) _ (c .before .before .before .before .before .before .before .before .read-packet .ensures) _ _ (c .before .before .before .before .before .before .a .given .1)) _ _ (c .before .before .before .before .joined-byte .ensures) (c .before .before .before .joined-byte2 .ensures) (c .before .before .if1 .taken) _ (c .before .word-of .ensures) (c .if2 .taken)
 
 loop-less-2 : tie.Need-loop-less-2 Inv-loop μ-loop
 loop-less-2 c = let t = keeps-told (c .before .before .before .before .before .before .before .before .before .before .before .args .file .now) (c .before .before .before .before .before .before .before .before .before .loop .at) _ (c .before .before .before .before .before .before .before .before .read-packet .ensures) _ _ (c .before .before .before .before .before .before .a .given .1) in let l = t .after in let m = t .inside in let u = t .upto in omega arith
 
 loop-again-2 : tie.Need-loop-again-2 Inv-loop μ-loop
-loop-again-2 c = measuring-more _ _ _ _ _ _ (c .before .before .before .before .before .before .before .before .before .loop .inv) _ _ (keeps-told (c .before .before .before .before .before .before .before .before .before .before .before .args .file .now) (c .before .before .before .before .before .before .before .before .before .loop .at) _ (c .before .before .before .before .before .before .before .before .read-packet .ensures) _ _ (c .before .before .before .before .before .before .a .given .1)) _ _ (c .before .before .before .before .joined-byte .ensures) (c .before .before .before .joined-byte2 .ensures) (c .before .before .if1 .taken) _ (c .before .word-of .ensures) (c .if2 .left)
+loop-again-2 c =
+    let s = c .before .before .before .before .before .before .before .before .before in
+    measuring-more _ _ _ _ _ _ (s .loop .inv) _ _ (keeps-told (c .before .before .before .before .before .before .before .before .before .before .before .args .file .now) (s .loop .at) _ (c .before .before .before .before .before .before .before .before .read-packet .ensures) _ _ (c .before .before .before .before .before .before .a .given .1)) _ _ (c .before .before .before .before .joined-byte .ensures) (c .before .before .before .joined-byte2 .ensures) (c .before .before .if1 .taken) _ (c .before .word-of .ensures) (c .if2 .left)
 
 loop-less-3 : tie.Need-loop-less-3 Inv-loop μ-loop
 loop-less-3 c = let t = keeps-told (c .before .before .before .before .before .before .before .before .before .args .file .now) (c .before .before .before .before .before .before .before .loop .at) _ (c .before .before .before .before .before .before .read-packet .ensures) _ _ (c .before .before .before .before .a .given .1) in let l = t .after in let m = t .inside in let u = t .upto in omega arith
 
 loop-again-3 : tie.Need-loop-again-3 Inv-loop μ-loop
-loop-again-3 c = measuring-few _ _ _ _ _ _ (c .before .before .before .before .before .before .before .loop .inv) _ _ (keeps-told (c .before .before .before .before .before .before .before .before .before .args .file .now) (c .before .before .before .before .before .before .before .loop .at) _ (c .before .before .before .before .before .before .read-packet .ensures) _ _ (c .before .before .before .before .a .given .1)) _ _ (c .before .before .joined-byte .ensures) (c .before .joined-byte2 .ensures) (c .if1 .left)
+loop-again-3 c =
+    let s = c .before .before .before .before .before .before .before in
+    measuring-few _ _ _ _ _ _ (s .loop .inv) _ _ (keeps-told (c .before .before .before .before .before .before .before .before .before .args .file .now) (s .loop .at) _ (c .before .before .before .before .before .before .read-packet .ensures) _ _ (c .before .before .before .before .a .given .1)) _ _ (c .before .before .joined-byte .ensures) (c .before .joined-byte2 .ensures) (c .if1 .left)
 
 pub measure-packets-spec : {M : Type 1} → statement M
 measure-packets-spec =

@@ -30,13 +30,19 @@ part-result-end : tie.Need-part-result-end
 part-result-end c = search needs
 
 returns : tie.Need-returns
-returns c = c .part .ensures ∙ ap (unitPart (c .before .before .before .before .before .before .args .file .now) (c .before .before .before .before .before .before .args .scratch .now) (c .before .before .before .before .before .before .args .position)) (sym (c .before .before .unit .given .1))
+returns c =
+    let s = c .before .before .before .before .before .before in
+    c .part .ensures ∙ ap (unitPart (s .args .file .now) (s .args .scratch .now) (s .args .position)) (sym (c .before .before .unit .given .1))
 
 returns-2 : tie.Need-returns-2
-returns-2 c = c .part2 .ensures ∙ ap (unitPart (c .before .before .before .before .before .before .args .file .now) (c .before .before .before .before .before .before .args .scratch .now) (c .before .before .before .before .before .before .args .position)) (sym (c .before .before .unit2 .given .1))
+returns-2 c =
+    let s = c .before .before .before .before .before .before in
+    c .part2 .ensures ∙ ap (unitPart (s .args .file .now) (s .args .scratch .now) (s .args .position)) (sym (c .before .before .unit2 .given .1))
 
 returns-3 : tie.Need-returns-3
-returns-3 c = ap (unitPart (c .before .before .before .before .before .args .file .now) (c .before .before .before .before .before .args .scratch .now) (c .before .before .before .before .before .args .position)) (sym (c .before .enum-told .given .1))
+returns-3 c =
+    let s = c .before .before .before .before .before in
+    ap (unitPart (s .args .file .now) (s .args .scratch .now) (s .args .position)) (sym (c .before .enum-told .given .1))
 
 pub unit-part-spec : {M : Type 1} → statement M
 unit-part-spec =

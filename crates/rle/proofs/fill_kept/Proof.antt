@@ -26,7 +26,9 @@ loop-holds : tie.Need-loop-holds Inv-loop μ-loop
 loop-holds c = record { long = refl; fits = c .before .before .pre .2; goes = refl }
 
 mul-v : tie.Need-mul-v Inv-loop μ-loop
-mul-v c = omega (arith, c .before .before .before .before .pre .0, c .before .before .before .before .good .0 .1)
+mul-v c =
+    let s = c .before .before .before .before in
+    omega (arith, s .pre .0, s .good .0 .1)
 
 shared-slice-read-v : tie.Need-shared-slice-read-v Inv-loop μ-loop
 shared-slice-read-v c = omega (arith, c .before .before .before .before .before .pre .0)
@@ -53,7 +55,9 @@ add-place-after : tie.Need-add-place-after Inv-loop μ-loop
 add-place-after c = omega (arith, inside (c .before .before .before .before))
 
 place-after-requires : tie.Need-place-after-requires Inv-loop μ-loop
-place-after-requires c κs = omega (arith, inside (c .before .before .before .before), c .before .before .before .before .before .before .before .before .before .pre .1, c .before .before .before .before .before .before .before .before .before .good)
+place-after-requires c κs =
+    let s = c .before .before .before .before .before .before .before .before .before in
+    omega (arith, inside (c .before .before .before .before), s .pre .1, s .good)
 
 left-after-requires : tie.Need-left-after-requires Inv-loop μ-loop
 left-after-requires c κs = search needs

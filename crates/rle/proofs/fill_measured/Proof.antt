@@ -16,7 +16,9 @@ returns : tie.Need-returns
 returns c = kept-pixels _ _ _ _ _ (c .before .before .before .before .if2 .taken) (c .before .before .before .before .before .before .before .before .before .pre .2) (c .before .before .before .before .before .if1 .taken) _ _ _ (c .before .before .fill-kept .ensures)
 
 fill-field-requires : tie.Need-fill-field-requires
-fill-field-requires c κs = (c .before .before .before .before .before .pre .1, c .before .before .before .before .before .pre .2 .there)
+fill-field-requires c κs =
+    let s = c .before .before .before .before .before in
+    (s .pre .1, s .pre .2 .there)
 
 same-length-2 : tie.Need-same-length-2
 same-length-2 c = search needs

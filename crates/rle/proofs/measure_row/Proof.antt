@@ -64,13 +64,17 @@ keep-requires : tie.Need-keep-requires Inv-loop μ-loop
 keep-requires c κs = search needs
 
 plus-counts-requires : tie.Need-plus-counts-requires Inv-loop μ-loop
-plus-counts-requires c κs = omega (arith, got (c .before .before .before .before .before .before) .is .inside, got (c .before .before .before .before .before .before) .is .one, c .before .before .before .before .before .before .before .before .before .before .before .loop .inv .few)
+plus-counts-requires c κs =
+    let s = c .before .before .before .before .before .before in
+    omega (arith, got (s) .is .inside, got (s) .is .one, c .before .before .before .before .before .before .before .before .before .before .before .loop .inv .few)
 
 painted-requires : tie.Need-painted-requires Inv-loop μ-loop
 painted-requires c κs = search needs
 
 sub-left : tie.Need-sub-left Inv-loop μ-loop
-sub-left c = omega (arith, c .before .before .before .before .before .painted .ensures 0, paints-le (c .before .before .before .before .before .before .before .before .before .before .before .before .loop .left) (code 0 (c .before .before .before .before .before .before .before .before .size .given .0 .0) (c .before .before .before .before .before .before .before .before .size .given .0 .1 .0)))
+sub-left c =
+    let s = c .before .before .before .before .before .before .before .before in
+    omega (arith, c .before .before .before .before .before .painted .ensures 0, paints-le (c .before .before .before .before .before .before .before .before .before .before .before .before .loop .left) (code 0 (s .size .given .0 .0) (s .size .given .0 .1 .0)))
 
 loop-less : tie.Need-loop-less Inv-loop μ-loop
 loop-less c =

@@ -17,19 +17,27 @@ mul-if1 : tie.Need-mul-if1
 mul-if1 c = omega (arith, area-small _ _ (c .before .laid-out .ensures .0) (c .before .laid-out .ensures .1))
 
 returns : tie.Need-returns
-returns c = short-map _ (c .before .before .before .before .before .before .pre .0) (c .before .before .before .before .before .before .pre .1) _ _ (subst (λ n. length (c .before .before .before .before .before .before .args .pixels .now) < n) (ap (λ (l : Layout). l .width * l .height) (c .before .before .laid-out .ensures .2 (c .before .before .before .before .before .before .pre .0) (c .before .before .before .before .before .before .pre .1))) (c .if1 .taken))
+returns c =
+    let s = c .before .before .before .before .before .before in
+    short-map _ (s .pre .0) (s .pre .1) _ _ (subst (λ n. length (s .args .pixels .now) < n) (ap (λ (l : Layout). l .width * l .height) (c .before .before .laid-out .ensures .2 (s .pre .0) (s .pre .1))) (c .if1 .taken))
 
 returns-2 : tie.Need-returns-2
-returns-2 c = short-bands _ (c .before .before .before .before .before .before .before .before .pre .0) (c .before .before .before .before .before .before .before .before .pre .1) _ _ (subst (λ n. n ≤ length (c .before .before .before .before .before .before .before .before .args .pixels .now)) (ap (λ (l : Layout). l .width * l .height) (c .before .before .before .before .laid-out .ensures .2 (c .before .before .before .before .before .before .before .before .pre .0) (c .before .before .before .before .before .before .before .before .pre .1))) (c .before .before .if1 .left)) (subst (λ n. length (c .before .before .before .before .before .before .before .before .args .words .now) < n) (needs-words _ _ (c .before .before .before .before .before .before .before .before .pre .2)) (c .if2 .taken))
+returns-2 c =
+    let s = c .before .before .before .before .before .before .before .before in
+    short-bands _ (s .pre .0) (s .pre .1) _ _ (subst (λ n. n ≤ length (s .args .pixels .now)) (ap (λ (l : Layout). l .width * l .height) (c .before .before .before .before .laid-out .ensures .2 (s .pre .0) (s .pre .1))) (c .before .before .if1 .left)) (subst (λ n. length (s .args .words .now) < n) (needs-words _ _ (s .pre .2)) (c .if2 .taken))
 
 decode-rows-requires : tie.Need-decode-rows-requires
-decode-rows-requires c κs = (c .before .before .before .before .before .before .before .before .before .pre .0, c .before .before .before .before .before .before .before .before .before .pre .1, c .before .before .before .before .before .before .before .before .before .pre .2, (subst (λ n. n ≤ length (c .before .before .before .before .before .before .before .before .before .args .pixels .now)) (ap (λ (l : Layout). l .width * l .height) (c .before .before .before .before .before .laid-out .ensures .2 (c .before .before .before .before .before .before .before .before .before .pre .0) (c .before .before .before .before .before .before .before .before .before .pre .1))) (c .before .before .before .if1 .left)))
+decode-rows-requires c κs =
+    let s = c .before .before .before .before .before .before .before .before .before in
+    (s .pre .0, s .pre .1, s .pre .2, (subst (λ n. n ≤ length (s .args .pixels .now)) (ap (λ (l : Layout). l .width * l .height) (c .before .before .before .before .before .laid-out .ensures .2 (s .pre .0) (s .pre .1))) (c .before .before .before .if1 .left)))
 
 enum-known-counts : tie.Need-enum-known-counts
 enum-known-counts c = search needs
 
 store-bands-requires : tie.Need-store-bands-requires
-store-bands-requires c κs = (is-ok _ _ (c .before .before .before .before .before .before .before .before .before .before .before .before .before .before .before .before .pre .1), needs-words _ _ (c .before .before .before .before .before .before .before .before .before .before .before .before .before .before .before .before .pre .2) ∙ words-are _ _ (c .before .before .before .before .before .before .before .before .before .before .before .before .before .before .before .before .pre .1), c .before .before .before .before .before .before .before .before .if2 .left)
+store-bands-requires c κs =
+    let s = c .before .before .before .before .before .before .before .before .before .before .before .before .before .before .before .before in
+    (is-ok _ _ (s .pre .1), needs-words _ _ (s .pre .2) ∙ words-are _ _ (s .pre .1), c .before .before .before .before .before .before .before .before .if2 .left)
 
 with-counts-requires : tie.Need-with-counts-requires
 with-counts-requires c κs = search needs

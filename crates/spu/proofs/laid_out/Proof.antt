@@ -28,7 +28,9 @@ cast-height-2 : tie.Need-cast-height-2
 cast-height-2 c = search needs
 
 sub-height : tie.Need-sub-height
-sub-height c = omega (arith, known _ _ (c .before .before .before .before .before .pre) .wide, known _ _ (c .before .before .before .before .before .pre) .high)
+sub-height c =
+    let s = c .before .before .before .before .before in
+    omega (arith, known _ _ (s .pre) .wide, known _ _ (s .pre) .high)
 
 shared-slice-read-word-of : tie.Need-shared-slice-read-word-of
 shared-slice-read-word-of c = omega (arith, known _ _ (c .before .before .before .before .before .before .pre) .head)
@@ -62,7 +64,9 @@ has-bottom-requires c κs = search needs
 
 returns : tie.Need-returns
 unfolding word
-returns c = (omega arith, omega arith, λ bs e. laid (c .before .before .before .before .before .before .before .before .before .before .before .before .before .before .before .args .unit .now) _ _ _ _ _ _ (same _ _ (c .before .before .before .before .before .before .before .before .before .before .before .before .before .before .before .pre) bs e) (c .before .before .before .before .before .before .before .word-of .ensures) (c .before .before .before .before .word-of2 .ensures) (c .before .ending .ensures) (c .has-bottom .ensures))
+returns c =
+    let s = c .before .before .before .before .before .before .before .before .before .before .before .before .before .before .before in
+    (omega arith, omega arith, λ bs e. laid (s .args .unit .now) _ _ _ _ _ _ (same _ _ (s .pre) bs e) (c .before .before .before .before .before .before .before .word-of .ensures) (c .before .before .before .before .word-of2 .ensures) (c .before .ending .ensures) (c .has-bottom .ensures))
 
 pub laid-out-spec : {M : Type 1} → statement M
 laid-out-spec =

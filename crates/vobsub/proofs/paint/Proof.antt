@@ -29,19 +29,27 @@ add-line : tie.Need-add-line Inv-loop μ-loop
 add-line c = omega (arith, c .loop-test .taken, c .before .before .before .before .before .before .pre .1)
 
 add-end : tie.Need-add-end Inv-loop μ-loop
-add-end c = omega (arith, c .before .loop .inv .place, line-room (c .before .before .before .before .before .before .args .width) (c .before .before .before .before .before .before .args .height) (c .before .loop .r) (c .loop-test .taken), c .before .before .before .before .before .before .pre .2, c .before .before .before .before .before .before .good .0)
+add-end c =
+    let s = c .before .before .before .before .before .before in
+    omega (arith, c .before .loop .inv .place, line-room (s .args .width) (s .args .height) (c .before .loop .r) (c .loop-test .taken), s .pre .2, s .good .0)
 
 sub-paint-line : tie.Need-sub-paint-line Inv-loop μ-loop
 sub-paint-line c = omega arith
 
 part-paint-line-start : tie.Need-part-paint-line-start Inv-loop μ-loop
-part-paint-line-start c = omega (arith, c .before .loop .inv .place, line-room (c .before .before .before .before .before .before .args .width) (c .before .before .before .before .before .before .args .height) (c .before .loop .r) (c .loop-test .taken), c .before .before .before .before .before .before .pre .2)
+part-paint-line-start c =
+    let s = c .before .before .before .before .before .before in
+    omega (arith, c .before .loop .inv .place, line-room (s .args .width) (s .args .height) (c .before .loop .r) (c .loop-test .taken), s .pre .2)
 
 part-paint-line-end : tie.Need-part-paint-line-end Inv-loop μ-loop
-part-paint-line-end c = omega (arith, c .before .loop .inv .place, line-room (c .before .before .before .before .before .before .args .width) (c .before .before .before .before .before .before .args .height) (c .before .loop .r) (c .loop-test .taken), c .before .before .before .before .before .before .pre .2)
+part-paint-line-end c =
+    let s = c .before .before .before .before .before .before in
+    omega (arith, c .before .loop .inv .place, line-room (s .args .width) (s .args .height) (c .before .loop .r) (c .loop-test .taken), s .pre .2)
 
 mul-paint-line : tie.Need-mul-paint-line Inv-loop μ-loop
-mul-paint-line c = omega (arith, c .before .before .before .loop .inv .place, line-room (c .before .before .before .before .before .before .before .before .args .width) (c .before .before .before .before .before .before .before .before .args .height) (c .before .before .before .loop .r) (c .before .before .loop-test .taken), c .before .before .before .before .before .before .before .before .pre .3, c .before .before .before .before .before .before .before .before .good .0)
+mul-paint-line c =
+    let s = c .before .before .before .before .before .before .before .before in
+    omega (arith, c .before .before .before .loop .inv .place, line-room (s .args .width) (s .args .height) (c .before .before .before .loop .r) (c .before .before .loop-test .taken), s .pre .3, s .good .0)
 
 paint-line-requires : tie.Need-paint-line-requires Inv-loop μ-loop
 paint-line-requires c κs =

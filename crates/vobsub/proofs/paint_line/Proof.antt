@@ -13,7 +13,9 @@ spans-line-requires : tie.Need-spans-line-requires
 spans-line-requires c κs = search needs
 
 paint-under-requires : tie.Need-paint-under-requires
-paint-under-requires c κs = (c .before .before .before .before .before .before .pre .0, c .before .before .before .before .before .before .pre .1)
+paint-under-requires c κs =
+    let s = c .before .before .before .before .before .before in
+    (s .pre .0, s .pre .1)
 
 same-length : tie.Need-same-length
 same-length c = search needs

@@ -36,19 +36,29 @@ sub-height : tie.Need-sub-height
 sub-height c = omega (arith, known _ _ (c .before .before .before .before .before .before .before .before .pre) .high)
 
 mul-area : tie.Need-mul-area
-mul-area c = omega (arith, area-small (c .before .before .before .before .before .before .before .before .args .spu .x2 + 1 - c .before .before .before .before .before .before .before .before .args .spu .x1) (c .before .before .before .before .before .before .before .before .args .spu .y2 + 1 - c .before .before .before .before .before .before .before .before .args .spu .y1) (omega arith) (omega arith))
+mul-area c =
+    let s = c .before .before .before .before .before .before .before .before in
+    omega (arith, area-small (s .args .spu .x2 + 1 - s .args .spu .x1) (s .args .spu .y2 + 1 - s .args .spu .y1) (omega arith) (omega arith))
 
 returns : tie.Need-returns
-returns c = map-short _ (c .before .before .before .before .before .before .before .before .before .pre .0) (c .before .before .before .before .before .before .before .before .before .pre .1) _ _ _ _ (lent-map (c .before .before .before .before .before .before .before .before .before .args .spu) (told (c .before .before .before .before .before .before .before .before .before .pre .0)) (c .before .before .before .before .before .before .before .before .before .pre .2) (length (c .before .before .before .before .before .before .before .before .before .args .pixels .now)) .1 (c .if1 .taken))
+returns c =
+    let s = c .before .before .before .before .before .before .before .before .before in
+    map-short _ (s .pre .0) (s .pre .1) _ _ _ _ (lent-map (s .args .spu) (told (s .pre .0)) (s .pre .2) (length (s .args .pixels .now)) .1 (c .if1 .taken))
 
 returns-2 : tie.Need-returns-2
-returns-2 c = words-short _ (c .before .before .before .before .before .before .before .before .before .before .before .pre .0) (c .before .before .before .before .before .before .before .before .before .before .before .pre .1) _ _ _ _ (lent-map (c .before .before .before .before .before .before .before .before .before .before .before .args .spu) (told (c .before .before .before .before .before .before .before .before .before .before .before .pre .0)) (c .before .before .before .before .before .before .before .before .before .before .before .pre .2) (length (c .before .before .before .before .before .before .before .before .before .before .before .args .pixels .now)) .0 (c .before .before .if1 .left)) (lent-words (c .before .before .before .before .before .before .before .before .before .before .before .args .spu) (told (c .before .before .before .before .before .before .before .before .before .before .before .pre .0)) (c .before .before .before .before .before .before .before .before .before .before .before .pre .2) (length (c .before .before .before .before .before .before .before .before .before .before .before .args .words .now)) .1 (c .if2 .taken))
+returns-2 c =
+    let s = c .before .before .before .before .before .before .before .before .before .before .before in
+    words-short _ (s .pre .0) (s .pre .1) _ _ _ _ (lent-map (s .args .spu) (told (s .pre .0)) (s .pre .2) (length (s .args .pixels .now)) .0 (c .before .before .if1 .left)) (lent-words (s .args .spu) (told (s .pre .0)) (s .pre .2) (length (s .args .words .now)) .1 (c .if2 .taken))
 
 mul-if3 : tie.Need-mul-if3
-mul-if3 c = omega (arith, area-small (c .before .before .before .before .before .before .before .before .before .before .before .args .spu .x2 + 1 - c .before .before .before .before .before .before .before .before .before .before .before .args .spu .x1) (c .before .before .before .before .before .before .before .before .before .before .before .args .spu .y2 + 1 - c .before .before .before .before .before .before .before .before .before .before .before .args .spu .y1) (omega arith) (omega arith))
+mul-if3 c =
+    let s = c .before .before .before .before .before .before .before .before .before .before .before in
+    omega (arith, area-small (s .args .spu .x2 + 1 - s .args .spu .x1) (s .args .spu .y2 + 1 - s .args .spu .y1) (omega arith) (omega arith))
 
 returns-3 : tie.Need-returns-3
-returns-3 c = canvas-short _ (c .before .before .before .before .before .before .before .before .before .before .before .before .pre .0) (c .before .before .before .before .before .before .before .before .before .before .before .before .pre .1) _ _ _ _ (lent-map (c .before .before .before .before .before .before .before .before .before .before .before .before .args .spu) (told (c .before .before .before .before .before .before .before .before .before .before .before .before .pre .0)) (c .before .before .before .before .before .before .before .before .before .before .before .before .pre .2) (length (c .before .before .before .before .before .before .before .before .before .before .before .before .args .pixels .now)) .0 (c .before .before .before .if1 .left)) (lent-words (c .before .before .before .before .before .before .before .before .before .before .before .before .args .spu) (told (c .before .before .before .before .before .before .before .before .before .before .before .before .pre .0)) (c .before .before .before .before .before .before .before .before .before .before .before .before .pre .2) (length (c .before .before .before .before .before .before .before .before .before .before .before .before .args .words .now)) .0 (c .before .if2 .left)) (lent-canvas (c .before .before .before .before .before .before .before .before .before .before .before .before .args .spu) (told (c .before .before .before .before .before .before .before .before .before .before .before .before .pre .0)) (c .before .before .before .before .before .before .before .before .before .before .before .before .pre .2) (length (c .before .before .before .before .before .before .before .before .before .before .before .before .args .canvas .now)) .1 (c .if3 .taken))
+returns-3 c =
+    let s = c .before .before .before .before .before .before .before .before .before .before .before .before in
+    canvas-short _ (s .pre .0) (s .pre .1) _ _ _ _ (lent-map (s .args .spu) (told (s .pre .0)) (s .pre .2) (length (s .args .pixels .now)) .0 (c .before .before .before .if1 .left)) (lent-words (s .args .spu) (told (s .pre .0)) (s .pre .2) (length (s .args .words .now)) .0 (c .before .if2 .left)) (lent-canvas (s .args .spu) (told (s .pre .0)) (s .pre .2) (length (s .args .canvas .now)) .1 (c .if3 .taken))
 
 decode-told-requires : tie.Need-decode-told-requires
 decode-told-requires c κs = search needs
@@ -85,7 +95,9 @@ same-length-3 : tie.Need-same-length-3
 same-length-3 c = search needs
 
 returns-4 : tie.Need-returns-4
-returns-4 c = unit-shows _ (c .before .before .before .before .before .before .before .before .before .before .before .before .before .before .before .before .before .before .before .before .before .before .before .before .before .before .before .before .pre .0) (c .before .before .before .before .before .before .before .before .before .before .before .before .before .before .before .before .before .before .before .before .before .before .before .before .before .before .before .before .pre .1) _ _ _ _ (lent-map (c .before .before .before .before .before .before .before .before .before .before .before .before .before .before .before .before .before .before .before .before .before .before .before .before .before .before .before .before .args .spu) (told (c .before .before .before .before .before .before .before .before .before .before .before .before .before .before .before .before .before .before .before .before .before .before .before .before .before .before .before .before .pre .0)) (c .before .before .before .before .before .before .before .before .before .before .before .before .before .before .before .before .before .before .before .before .before .before .before .before .before .before .before .before .pre .2) (length (c .before .before .before .before .before .before .before .before .before .before .before .before .before .before .before .before .before .before .before .before .before .before .before .before .before .before .before .before .args .pixels .now)) .0 (c .before .before .before .before .before .before .before .before .before .before .before .before .before .before .before .before .before .before .before .if1 .left)) (lent-words (c .before .before .before .before .before .before .before .before .before .before .before .before .before .before .before .before .before .before .before .before .before .before .before .before .before .before .before .before .args .spu) (told (c .before .before .before .before .before .before .before .before .before .before .before .before .before .before .before .before .before .before .before .before .before .before .before .before .before .before .before .before .pre .0)) (c .before .before .before .before .before .before .before .before .before .before .before .before .before .before .before .before .before .before .before .before .before .before .before .before .before .before .before .before .pre .2) (length (c .before .before .before .before .before .before .before .before .before .before .before .before .before .before .before .before .before .before .before .before .before .before .before .before .before .before .before .before .args .words .now)) .0 (c .before .before .before .before .before .before .before .before .before .before .before .before .before .before .before .before .before .if2 .left)) (lent-canvas (c .before .before .before .before .before .before .before .before .before .before .before .before .before .before .before .before .before .before .before .before .before .before .before .before .before .before .before .before .args .spu) (told (c .before .before .before .before .before .before .before .before .before .before .before .before .before .before .before .before .before .before .before .before .before .before .before .before .before .before .before .before .pre .0)) (c .before .before .before .before .before .before .before .before .before .before .before .before .before .before .before .before .before .before .before .before .before .before .before .before .before .before .before .before .pre .2) (length (c .before .before .before .before .before .before .before .before .before .before .before .before .before .before .before .before .before .before .before .before .before .before .before .before .before .before .before .before .args .canvas .now)) .0 (c .before .before .before .before .before .before .before .before .before .before .before .before .before .before .before .before .if3 .left)) _ _ (c .before .before .before .before .before .before .before .before .before .before .before .before .before .before .before .before .before .before .before .before .before .before .before .before .before .before .before .before .args .spu) _ _ _ (c .before .before .before .before .before .before .before .before .before .before .before .before .before .before .before .before .before .before .before .before .before .before .before .before .before .before .before .before .pre .2) (c .before .before .before .before .before .before .before .before .before .before .before .before .before .decode-told .ensures) (c .before .before .before .before .before .before .before .s .given .1) (c .before .before .paint .ensures)
+returns-4 c =
+    let s = c .before .before .before .before .before .before .before .before .before .before .before .before .before .before .before .before .before .before .before .before .before .before .before .before .before .before .before .before in
+    unit-shows _ (s .pre .0) (s .pre .1) _ _ _ _ (lent-map (s .args .spu) (told (s .pre .0)) (s .pre .2) (length (s .args .pixels .now)) .0 (c .before .before .before .before .before .before .before .before .before .before .before .before .before .before .before .before .before .before .before .if1 .left)) (lent-words (s .args .spu) (told (s .pre .0)) (s .pre .2) (length (s .args .words .now)) .0 (c .before .before .before .before .before .before .before .before .before .before .before .before .before .before .before .before .before .if2 .left)) (lent-canvas (s .args .spu) (told (s .pre .0)) (s .pre .2) (length (s .args .canvas .now)) .0 (c .before .before .before .before .before .before .before .before .before .before .before .before .before .before .before .before .if3 .left)) _ _ (s .args .spu) _ _ _ (s .pre .2) (c .before .before .before .before .before .before .before .before .before .before .before .before .before .decode-told .ensures) (c .before .before .before .before .before .before .before .s .given .1) (c .before .before .paint .ensures)
 
 same-length-4 : tie.Need-same-length-4
 same-length-4 c = search needs
@@ -94,7 +106,9 @@ same-length-5 : tie.Need-same-length-5
 same-length-5 c = search needs
 
 returns-5 : tie.Need-returns-5
-returns-5 c = unit-stops _ (c .before .before .before .before .before .before .before .before .before .before .before .before .before .before .before .before .before .before .before .before .before .before .pre .0) (c .before .before .before .before .before .before .before .before .before .before .before .before .before .before .before .before .before .before .before .before .before .before .pre .1) _ _ _ _ (lent-map (c .before .before .before .before .before .before .before .before .before .before .before .before .before .before .before .before .before .before .before .before .before .before .args .spu) (told (c .before .before .before .before .before .before .before .before .before .before .before .before .before .before .before .before .before .before .before .before .before .before .pre .0)) (c .before .before .before .before .before .before .before .before .before .before .before .before .before .before .before .before .before .before .before .before .before .before .pre .2) (length (c .before .before .before .before .before .before .before .before .before .before .before .before .before .before .before .before .before .before .before .before .before .before .args .pixels .now)) .0 (c .before .before .before .before .before .before .before .before .before .before .before .before .before .if1 .left)) (lent-words (c .before .before .before .before .before .before .before .before .before .before .before .before .before .before .before .before .before .before .before .before .before .before .args .spu) (told (c .before .before .before .before .before .before .before .before .before .before .before .before .before .before .before .before .before .before .before .before .before .before .pre .0)) (c .before .before .before .before .before .before .before .before .before .before .before .before .before .before .before .before .before .before .before .before .before .before .pre .2) (length (c .before .before .before .before .before .before .before .before .before .before .before .before .before .before .before .before .before .before .before .before .before .before .args .words .now)) .0 (c .before .before .before .before .before .before .before .before .before .before .before .if2 .left)) (lent-canvas (c .before .before .before .before .before .before .before .before .before .before .before .before .before .before .before .before .before .before .before .before .before .before .args .spu) (told (c .before .before .before .before .before .before .before .before .before .before .before .before .before .before .before .before .before .before .before .before .before .before .pre .0)) (c .before .before .before .before .before .before .before .before .before .before .before .before .before .before .before .before .before .before .before .before .before .before .pre .2) (length (c .before .before .before .before .before .before .before .before .before .before .before .before .before .before .before .before .before .before .before .before .before .before .args .canvas .now)) .0 (c .before .before .before .before .before .before .before .before .before .before .if3 .left)) _ _ _ _ (c .before .before .before .before .before .before .before .decode-told .ensures) (c .before .number .given .1)
+returns-5 c =
+    let s = c .before .before .before .before .before .before .before .before .before .before .before .before .before .before .before .before .before .before .before .before .before .before in
+    unit-stops _ (s .pre .0) (s .pre .1) _ _ _ _ (lent-map (s .args .spu) (told (s .pre .0)) (s .pre .2) (length (s .args .pixels .now)) .0 (c .before .before .before .before .before .before .before .before .before .before .before .before .before .if1 .left)) (lent-words (s .args .spu) (told (s .pre .0)) (s .pre .2) (length (s .args .words .now)) .0 (c .before .before .before .before .before .before .before .before .before .before .before .if2 .left)) (lent-canvas (s .args .spu) (told (s .pre .0)) (s .pre .2) (length (s .args .canvas .now)) .0 (c .before .before .before .before .before .before .before .before .before .before .if3 .left)) _ _ _ _ (c .before .before .before .before .before .before .before .decode-told .ensures) (c .before .number .given .1)
 
 pub paint-told-spec : {M : Type 1} → statement M
 paint-told-spec =
