@@ -1,8 +1,10 @@
 -- Closed inputs on which each edit of this crate's definitions gives another value. Assumes nothing.
 use mathlib.Core.Path.{_≡_, refl}
+use mathlib.Core.Option.{some}
 use mathlib.Core.List.{[], _∷_}
 use Rattle.grammar.specs.Bytes.{word, nibble, nibbles}
-use Rattle.grammar.specs.Control.{area, offsets}
+use Rattle.grammar.specs.Control.{start, area, offsets}
+use Rattle.control_model.specs.Fold.{untold, tell}
 use Rattle.control_model.specs.Chain.{areaAt, offsetsAt}
 
 -- columns 1 to 2, and lines 3 to 4
@@ -14,3 +16,8 @@ area-read = refl
 pub offsets-read : offsetsAt (0x00 ∷ 0x05 ∷ 0x00 ∷ 0x06 ∷ []) 0 ≡ offsets 5 6
 unfolding word
 offsets-read = refl
+
+-- two starts, with delays 7 and 9
+pub first-start : tell 9 start (tell 7 start untold) .starts ≡ some 7
+unfolding untold
+first-start = refl

@@ -15,7 +15,8 @@ use Rattle.outcome.proofs.Laws.{ok-not-refuse, ok-injective, check-ok, mapRes-o
 use Rattle.grammar.specs.Bytes.{byte, word}
 use Rattle.grammar.specs.Bands.{bandWords}
 use Rattle.grammar.specs.Control.{Order, forced-start, start, stop, selectors, alphas, area, offsets, colours, codeOf, sizeOf, Command, commandEnd, Block, lengthWord, controlWord, IsChain}
-use Rattle.grammar.specs.Record.{Told, untold, tell, tellBlock, tellChain, told}
+use Rattle.grammar.specs.Record.{Told, told}
+use Rattle.control_model.specs.Fold.{untold, tell, tellBlock, tellChain}
 use Rattle.bands_model.specs.Bands.{bandsOf}
 use Rattle.bands_model.specs.Answers.{countOf, stored, Stored}
 use Rattle.bands_model.specs.declared.BandAnswer.{BandAnswer}
@@ -25,6 +26,7 @@ use Rattle.control_model.specs.Listed.{bandsAt}
 use Rattle.control_model.specs.Chain.{plainAt, changeAt, orderAt, command, commandAt, commandsAt, block, blockAt, chainNext, blocksAt, chainAt, hasArea, controlAt}
 use Rattle.control_model.specs.Fill.{orderWords, blockWords, chainWords, unitWords, OrderFilled, Filled}
 use Rattle.control_model.specs.declared.Place.{Place}
+use Rattle.control_model.proofs.Fold.{folded}
 use Rattle.control_model.proofs.Listed.{bands-listed}
 use Rattle.control_model.proofs.Grammar.{order-sound, commands-step, blocks-step, blocks-iff, chain-iff}
 
@@ -320,7 +322,7 @@ chain-joins (b ∷ bs) t =
 
 pub told-words : (bs : List Block) → bandWords (told bs .bands) ≡ chainWords bs
 unfolding untold bandWords
-told-words bs = chain-joins bs untold
+told-words bs = ap (λ (t : Told). bandWords (t .bands)) (sym (folded bs)) ∙ chain-joins bs untold
 
 -- ---- A unit that was read
 

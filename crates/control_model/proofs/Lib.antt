@@ -1,3 +1,4 @@
+pub mod Fold
 pub mod Bits
 pub mod Listed
 pub mod Grammar

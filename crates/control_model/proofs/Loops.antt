@@ -15,7 +15,8 @@ use Rattle.outcome.proofs.Laws.{ok-injective, le-or-lt}
 use Rattle.grammar.specs.Bytes.{byte, word}
 use Rattle.grammar.specs.Bands.{Band, bandWords}
 use Rattle.grammar.specs.Control.{Order, forced-start, start, stop, selectors, alphas, area, offsets, colours, sizeOf, Written, Command, commandEnd, Commands, Block, lengthWord, controlWord}
-use Rattle.grammar.specs.Record.{Told, untold, tell, tellBlock, tellChain, told}
+use Rattle.grammar.specs.Record.{Told, told}
+use Rattle.control_model.specs.Fold.{untold, tell, tellBlock, tellChain}
 use Rattle.bands_model.specs.Bands.{bandsOf}
 use Rattle.bands_model.specs.Answers.{countOf}
 use Rattle.bands_model.specs.declared.BandAnswer.the-variants as band-answer
@@ -26,6 +27,7 @@ use Rattle.control_model.specs.declared.Spu.{Spu}
 use Rattle.control_model.specs.declared.CommandAnswer.the-variants as command-answer
 use Rattle.control_model.specs.declared.ControlAnswer.the-variants as control-answer
 use Rattle.bands_model.proofs.Loops.{words-join}
+use Rattle.control_model.proofs.Fold.{folded}
 use Rattle.control_model.proofs.Grammar.{order-sound, commands-iff, commands-step, blocks-step}
 use Rattle.control_model.proofs.Listed.{bands-listed, bands-few}
 use Rattle.rle_model.specs.Answers.{nothing}
@@ -385,8 +387,8 @@ module _ (u : List ℕ) where
             go : (r : Res (List Block)) → found ≡ r → control-answer.Tells s ≡ chainAnswer untold r → cond b (control-answer.Tells s) (control-answer.Refused no-area) ≡ controlAnswer u
             go (refuse m) q f = let y : _≡_ {A = ℕ} 0 1 = cc in absurd (omega arith)
             go (ok bs) q f =
-                let y : s ≡ spuOf (told bs) nothing = cc in
-                rw (fits, q, k (told bs) y) (last b f)
+                let y : s ≡ spuOf (tellChain bs untold) nothing = cc in
+                rw (fits, q, k (told bs) (y ∙ ap (λ (t : Told). spuOf t nothing) (folded bs))) (last b f)
               where
                 last : (b : Bool) → control-answer.Tells s ≡ chainAnswer untold (ok bs) → cond b (control-answer.Tells s) (control-answer.Refused no-area) ≡ chainAnswer untold (check b no-area (ok bs))
                 last true f = f

@@ -13,7 +13,7 @@ use Rattle.outcome.proofs.Laws.{clash, and-true}
 use borrow.Author.Tests.{leb-true}
 use Rattle.grammar.specs.Bytes.{byte, word, nibble, nibbles}
 use Rattle.grammar.specs.Control.{colours, sizeOf, lengthWord, controlWord}
-use Rattle.grammar.specs.Record.{told, untold, tellBlock, tellChain}
+use Rattle.grammar.specs.Record.{told}
 use Rattle.bands_model.specs.Bands.{bandsOf, entriesOf, header, entryOf}
 use Rattle.bands_model.proofs.Refusals.{bands-refuses}
 use Rattle.control_model.specs.Listed.{heldBands, bandsAt, held}
@@ -106,5 +106,5 @@ pub orders :
     × (controlAt (unit 0x05 (0x05 ∷ 0x00 ∷ 0x10 ∷ 0x00 ∷ 0x00 ∷ 0x00 ∷ 0x00 ∷ 0x07 ∷ 0x00 ∷ 0x03 ∷ 0x00 ∷ 0xFF ∷ [])) ≡ refuse no-band-list)
     -- 20, and 21
     × (controlAt (unit 0x05 (0x05 ∷ 0x00 ∷ 0x10 ∷ 0x00 ∷ 0x00 ∷ 0x00 ∷ 0x00 ∷ 0x08 ∷ [])) ≡ refuse unknown-command)
-unfolding listFrom listFuel word nibbles nibble untold tellBlock tellChain bandsAt bandsOf entriesOf header entryOf held plainAt changeAt orderAt commandAt commandsAt blockAt blocksAt headFits chainAt controlAt
+unfolding listFrom listFuel word nibbles nibble bandsAt bandsOf entriesOf header entryOf held plainAt changeAt orderAt commandAt commandsAt blockAt blocksAt headFits chainAt controlAt
 orders = (refl, refl, refl, refl, refl, refl, refl, refl, refl, refl, refl, refl, refl, refl, refl)

@@ -12,7 +12,8 @@ use mathlib.Core.List.{List, _++_}
 use lib.ListN.{length, length-append}
 use Rattle.grammar.specs.Bands.{Band, bandWords}
 use Rattle.grammar.specs.Control.{Order, sizeOf, forced-start, start, stop, selectors, alphas, area, offsets, colours}
-use Rattle.grammar.specs.Record.{Told, tell, first, delayOf}
+use Rattle.grammar.specs.Record.{Told, delayOf}
+use Rattle.control_model.specs.Fold.{tell, first}
 use Rattle.bands_model.proofs.Loops.{words-join}
 use Rattle.control_model.specs.Answers.{given, spuOf}
 use Rattle.control_model.specs.declared.Spu.{Spu}

@@ -7,7 +7,8 @@ use lib.ListN.{length}
 use Rattle.outcome.specs.Outcome.{Res, ok, refuse}
 use Rattle.grammar.specs.Bands.{bandWords}
 use Rattle.grammar.specs.Control.{Order, sizeOf, Command, Block}
-use Rattle.grammar.specs.Record.{Told, untold, tell, tellBlock, tellChain, delayOf}
+use Rattle.grammar.specs.Record.{Told, delayOf}
+use Rattle.control_model.specs.Fold.{untold, tell, tellBlock, tellChain}
 use Rattle.control_model.specs.Chain.{controlAt}
 use Rattle.control_model.specs.declared.Spu.{Spu}
 use Rattle.control_model.specs.declared.CommandAnswer.{CommandAnswer}

@@ -7,7 +7,8 @@ use lib.Seq.{sets}
 use Rattle.outcome.specs.Outcome.{listed}
 use Rattle.grammar.specs.Bands.{bandWords}
 use Rattle.grammar.specs.Control.{Order, sizeOf, Command, Block}
-use Rattle.grammar.specs.Record.{untold, tell, told}
+use Rattle.grammar.specs.Record.{told}
+use Rattle.control_model.specs.Fold.{untold, tell}
 use Rattle.control_model.specs.Chain.{controlAt}
 use Rattle.control_model.specs.declared.Place.{Place}
 

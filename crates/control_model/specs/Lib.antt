@@ -1,3 +1,4 @@
+pub mod Fold
 pub mod Listed
 pub mod Chain
 pub mod Answers

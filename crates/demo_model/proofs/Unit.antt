@@ -13,7 +13,7 @@ use Rattle.grammar.specs.Bytes.{byte, word, nibble, nibbles}
 use Rattle.grammar.specs.Rows.{Code}
 use Rattle.grammar.specs.Pixels.{rowPixels, codesIn, indexMap}
 use Rattle.grammar.specs.Control.{Order, start, selectors, alphas, area, offsets, Command, IsCommand, Commands, Block, Chain, IsChain, controlWord}
-use Rattle.grammar.specs.Record.{told, untold, tellBlock, tellChain, width}
+use Rattle.grammar.specs.Record.{told, width, commandsOf, commandsIn, firstDelay, lastDelay, lastNumbers, stands, allBands}
 use Rattle.grammar.specs.Picture.{evens, odds, topEnd, Stay0, Bottom, ListedUnit, IsUnit}
 use Rattle.rle_model.specs.Fields.{weave}
 use Rattle.spu_model.proofs.Grammar.{Paired, weave-length, weave-evens, weave-odds, weave-whole, evens-length, odds-length}
@@ -343,7 +343,7 @@ module _ (last : ℕ → ℕ → List Mark) (closes : Closes last) (w h : ℕ) (
   blocks = block w h second fields wide w-most high h-most ∷ []
 
   pub back : Back last w h px
-  unfolding unitOf tellChain tellBlock untold word
+  unfolding unitOf word told commandsOf commandsIn firstDelay lastDelay lastNumbers stands allBands
   back =
       let c : controlWord unit ≡ 4 + length fields = omega (arith, small-unit) in
       let v : width (told blocks) ≡ w = omega arith in

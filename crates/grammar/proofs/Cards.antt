@@ -11,7 +11,7 @@ use Rattle.grammar.specs.Bytes.{nibble, nibbles, word}
 use Rattle.grammar.specs.Rows.{Code, code, colour, paints, afterCodes, align}
 use Rattle.grammar.specs.Pixels.{rowPixels, codesIn, indexMap}
 use Rattle.grammar.specs.Control.{Order, forced-start, start, stop, selectors, alphas, area, offsets, colours, Command, commandEnd, Block}
-use Rattle.grammar.specs.Record.{Told, untold, tellBlock, tellChain, told, delayOf, width, height}
+use Rattle.grammar.specs.Record.{Told, told, delayOf, width, height, commandsOf, commandsIn, firstDelay, lastDelay, lastNumbers, stands, allBands}
 use Rattle.grammar.specs.Picture.{evens, odds, topEnd}
 use Rattle.grammar.specs.Packets.{Part, Packet, bufferSize, stampSize, subpicture, lengthEnd, joined, bare, packets, unitOf}
 use Rattle.grammar.specs.Bands.{Entry, Band, entryWords, bandWords, bandEnd}
@@ -141,5 +141,5 @@ cards =
     ∷ []
 
 tabled : map (λ c. c .got) cards ≡ map (λ c. c .want) cards
-unfolding cards nibble nibbles paints afterCodes align rowPixels codesIn indexMap word entryWords bandWords rightmost lastLook lookAt untold tellBlock tellChain topEnd evens joined unitOf
+unfolding cards nibble nibbles paints afterCodes align rowPixels codesIn indexMap word entryWords bandWords rightmost lastLook lookAt topEnd evens joined unitOf told commandsOf commandsIn firstDelay lastDelay lastNumbers stands allBands
 tabled = refl

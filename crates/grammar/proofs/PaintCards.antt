@@ -11,7 +11,7 @@ use Rattle.grammar.specs.Parts.{Part}
 use Rattle.grammar.specs.Bands.{Band, entryWords, bandWords}
 use Rattle.grammar.specs.Look.{Look, rightmost, lastLook, lookAt}
 use Rattle.grammar.specs.Control.{Order, start, stop, selectors, alphas, area, colours, Command, Block}
-use Rattle.grammar.specs.Record.{untold, tellBlock, tellChain, told}
+use Rattle.grammar.specs.Record.{told, commandsOf, commandsIn, firstDelay, lastDelay, lastNumbers, stands, allBands}
 use Rattle.grammar.specs.Rows.{code, paints}
 use Rattle.grammar.specs.Pixels.{rowPixels, codesIn, indexMap}
 use Rattle.grammar.specs.Packets.{Packet, bare, packets, joined, unitOf, scratchFor}
@@ -130,5 +130,5 @@ cards =
     ∷ []
 
 tabled : map (λ c. c .got) cards ≡ map (λ c. c .want) cards
-unfolding cards word entryWords bandWords rightmost lastLook lookAt untold tellBlock tellChain paints rowPixels codesIn indexMap joined unitOf startOf cuesOf coloursOf paletteFrom cueAt durationOf coloured pixel lineBytes canvasBytes shown mapOf wordsOf unitCanvas canvasOf
+unfolding cards word entryWords bandWords rightmost lastLook lookAt paints rowPixels codesIn indexMap joined unitOf startOf cuesOf coloursOf paletteFrom cueAt durationOf coloured pixel lineBytes canvasBytes shown mapOf wordsOf unitCanvas canvasOf told commandsOf commandsIn firstDelay lastDelay lastNumbers stands allBands
 tabled = refl

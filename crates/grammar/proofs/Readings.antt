@@ -16,7 +16,7 @@ use Rattle.grammar.specs.Index.{Said, palette, startOf, top-token, Says,
 use Rattle.grammar.specs.IndexCues.{cuesOf, coloursOf, paletteFrom, cueAt, durationOf}
 use Rattle.grammar.specs.Bands.{Band, Bands, Entries, entryWords, bandWords}
 use Rattle.grammar.specs.Control.{Order, start, selectors, alphas, area, offsets, colours, Command, Commands, Chain, IsChain}
-use Rattle.grammar.specs.Record.{untold, tellBlock, tellChain, told}
+use Rattle.grammar.specs.Record.{told, commandsOf, commandsIn, firstDelay, lastDelay, lastNumbers, stands, allBands}
 use Rattle.grammar.specs.Look.{rightmost, lastLook, lookAt}
 use Rattle.grammar.specs.Rows.{code, paints, RowCodes, afterCodes, align, FieldRows}
 use Rattle.grammar.specs.Pixels.{rowPixels, codesIn, indexMap}
@@ -101,7 +101,7 @@ small-chain =
     }
 
 small-picture : IsPicture small-file (told (small-unit .blocks)) (small-unit .rows)
-unfolding word nibble nibbles untold tellBlock tellChain evens topEnd FieldRows RowCodes afterCodes align paints
+unfolding word nibble nibbles evens topEnd FieldRows RowCodes afterCodes align paints told commandsOf commandsIn firstDelay lastDelay lastNumbers stands allBands
 small-picture =
     record {
       wide = omega arith;
@@ -138,19 +138,19 @@ small-passes =
 
 -- start 1000000, no duration, origin 0 0, 2 by 2, three codes, map 1 1 2 3, no words, and a canvas of black that is not transparent
 pub small-shown : shown small ≡ record { start = pos 1000000; duration = none; start-delay = 0; stop-delay = 0; x1 = 0; y1 = 0; width = 2; height = 2; codes = 3 }
-unfolding shown cuesOf cueAt durationOf startOf untold tellBlock tellChain codesIn
+unfolding shown cuesOf cueAt durationOf startOf codesIn told commandsOf commandsIn firstDelay lastDelay lastNumbers stands allBands
 small-shown = refl
 
 small-map : mapOf small ≡ 1 ∷ 1 ∷ 2 ∷ 3 ∷ []
-unfolding mapOf untold tellBlock tellChain indexMap rowPixels paints
+unfolding mapOf indexMap rowPixels paints told commandsOf commandsIn firstDelay lastDelay lastNumbers stands allBands
 small-map = refl
 
 pub small-words : wordsOf small ≡ []
-unfolding wordsOf untold tellBlock tellChain bandWords
+unfolding wordsOf bandWords told commandsOf commandsIn firstDelay lastDelay lastNumbers stands allBands
 small-words = refl
 
 pub small-canvas : canvasOf small ≡ 0 ∷ 0 ∷ 0 ∷ 255 ∷ 0 ∷ 0 ∷ 0 ∷ 255 ∷ 0 ∷ 0 ∷ 0 ∷ 255 ∷ 0 ∷ 0 ∷ 0 ∷ 255 ∷ []
-unfolding canvasOf unitCanvas paletteFrom untold tellBlock tellChain rowPixels paints canvasBytes lineBytes pixel coloured lookAt lastLook
+unfolding canvasOf unitCanvas paletteFrom rowPixels paints canvasBytes lineBytes pixel coloured lookAt lastLook told commandsOf commandsIn firstDelay lastDelay lastNumbers stands allBands
 small-canvas = refl
 
 -- ---- A title in packet form, with a palette and a colour band: 2 by 1 at 4 2
@@ -352,7 +352,7 @@ packed-chain =
     }
 
 packed-picture : IsPicture packed-bytes (told (packed-unit .blocks)) (packed-unit .rows)
-unfolding word nibble nibbles untold tellBlock tellChain evens topEnd Stay0 FieldRows RowCodes afterCodes align paints
+unfolding word nibble nibbles evens topEnd Stay0 FieldRows RowCodes afterCodes align paints told commandsOf commandsIn firstDelay lastDelay lastNumbers stands allBands
 packed-picture =
     record {
       wide = omega arith;
@@ -385,17 +385,17 @@ packed-passes =
 
 -- the first pixel has the unit's own colours, the second, at column 5, the band's
 packed-shown : shown packed ≡ record { start = pos 1000000; duration = none; start-delay = 3; stop-delay = 0; x1 = 4; y1 = 2; width = 2; height = 1; codes = 2 }
-unfolding shown cuesOf cueAt durationOf startOf untold tellBlock tellChain codesIn
+unfolding shown cuesOf cueAt durationOf startOf codesIn told commandsOf commandsIn firstDelay lastDelay lastNumbers stands allBands
 packed-shown = refl
 
 packed-map : mapOf packed ≡ 1 ∷ 2 ∷ []
-unfolding mapOf untold tellBlock tellChain indexMap rowPixels paints
+unfolding mapOf indexMap rowPixels paints told commandsOf commandsIn firstDelay lastDelay lastNumbers stands allBands
 packed-map = refl
 
 packed-words : wordsOf packed ≡ 2 ∷ 2 ∷ 1 ∷ 5 ∷ 0 ∷ 0x0080 ∷ []
-unfolding wordsOf untold tellBlock tellChain entryWords bandWords
+unfolding wordsOf entryWords bandWords told commandsOf commandsIn firstDelay lastDelay lastNumbers stands allBands
 packed-words = refl
 
 packed-canvas : canvasOf packed ≡ 0x40 ∷ 0x50 ∷ 0x60 ∷ 0xFF ∷ 0x10 ∷ 0x20 ∷ 0x30 ∷ 0x88 ∷ []
-unfolding canvasOf unitCanvas coloursOf paletteFrom untold tellBlock tellChain rowPixels paints canvasBytes lineBytes pixel coloured lookAt lastLook rightmost
+unfolding canvasOf unitCanvas coloursOf paletteFrom rowPixels paints canvasBytes lineBytes pixel coloured lookAt lastLook rightmost told commandsOf commandsIn firstDelay lastDelay lastNumbers stands allBands
 packed-canvas = refl

@@ -4,7 +4,7 @@ use mathlib.Core.Option.{none}
 use mathlib.Core.List.{List, [], _∷_}
 use lib.IntN.{pos}
 use Rattle.grammar.specs.Control.{start, stop, Block}
-use Rattle.grammar.specs.Record.{untold, tellBlock, tellChain, told}
+use Rattle.grammar.specs.Record.{told, commandsOf, commandsIn, firstDelay, lastDelay, lastNumbers, stands, allBands}
 use Rattle.control_model.specs.Answers.{spuOf}
 use Rattle.listing_model.specs.Title.{shownAt}
 use Rattle.listing_model.specs.Answers.{recordShown}
@@ -21,9 +21,9 @@ blocks =
 pub delays-listed :
     (shownAt (pos 0) none (record { blocks = blocks; rows = [] }) .start-delay ≡ 7)
     × (shownAt (pos 0) none (record { blocks = blocks; rows = [] }) .stop-delay ≡ 9)
-unfolding untold tellBlock tellChain
+unfolding told commandsOf commandsIn firstDelay lastDelay lastNumbers stands allBands
 delays-listed = (refl, refl)
 
 pub delays-recorded : (recordShown (pos 0) none (spuOf (told blocks) nothing) .start-delay ≡ 7) × (recordShown (pos 0) none (spuOf (told blocks) nothing) .stop-delay ≡ 9)
-unfolding spuOf untold tellBlock tellChain
+unfolding spuOf told commandsOf commandsIn firstDelay lastDelay lastNumbers stands allBands
 delays-recorded = (refl, refl)

@@ -7,7 +7,7 @@ use Rattle.outcome.specs.Lists.{listFuel, listFrom}
 use Rattle.grammar.specs.Bytes.{word, nibble, nibbles}
 use Rattle.grammar.specs.Rows.{code, paints, afterCodes, align}
 use Rattle.grammar.specs.Pixels.{codesIn}
-use Rattle.grammar.specs.Record.{told, untold, tellBlock, tellChain}
+use Rattle.grammar.specs.Record.{told, commandsOf, commandsIn, firstDelay, lastDelay, lastNumbers, stands, allBands}
 use Rattle.grammar.specs.Picture.{topEnd}
 use Rattle.rle_model.specs.Codes.{codeFrom, codeAt, rowAt, fieldAt}
 use Rattle.rle_model.specs.Field.{rowsFrom}
@@ -30,7 +30,7 @@ two-codes = refl
 
 -- the unit `00 04 00 04` is none that is refused
 pub least-unit : refusalOf (unitAt (0x00 ∷ 0x04 ∷ 0x00 ∷ 0x04 ∷ [])) ≡ 0
-unfolding unitAt rowsAt fieldsAt lowerAt fieldAt rowAt codeAt codeFrom rowsFrom weave paints afterCodes align topEnd listFrom listFuel word nibbles nibble untold tellBlock tellChain plainAt changeAt orderAt commandAt commandsAt blockAt blocksAt headFits chainAt controlAt
+unfolding unitAt rowsAt fieldsAt lowerAt fieldAt rowAt codeAt codeFrom rowsFrom weave paints afterCodes align topEnd listFrom listFuel word nibbles nibble plainAt changeAt orderAt commandAt commandsAt blockAt blocksAt headFits chainAt controlAt told commandsOf commandsIn firstDelay lastDelay lastNumbers stands allBands
 least-unit = refl
 
 -- a refusal stores nothing

@@ -15,7 +15,9 @@ use Rattle.grammar.specs.Rows.{Code}
 use Rattle.grammar.specs.Bands.{bandWords}
 use Rattle.grammar.specs.Pixels.{indexMap, codesIn}
 use Rattle.grammar.specs.Control.{Block, lengthWord, controlWord}
-use Rattle.grammar.specs.Record.{Offsets, Told, untold, told, width, height}
+use Rattle.grammar.specs.Record.{Offsets, Told, told, width, height}
+use Rattle.control_model.specs.Fold.{untold, tellChain}
+use Rattle.control_model.proofs.Fold.{folded}
 use Rattle.grammar.specs.Picture.{topEnd}
 use Rattle.control_model.specs.Chain.{controlAt}
 use Rattle.control_model.specs.Answers.{spuOf, chainAnswer, controlAnswer}
@@ -154,7 +156,7 @@ told-by u s e = go (controlAt u) refl e
   where
     go : (r : Res (List Block)) → controlAt u ≡ r → control-answer.Tells s ≡ chainAnswer untold r → (bs : List Block) × (controlAt u ≡ ok bs) × (s ≡ spuOf (told bs) nothing)
     go (refuse n) q f = let y : _≡_ {A = ℕ} 0 1 = cc in absurd (omega arith)
-    go (ok bs) q f = (bs, q, cc)
+    go (ok bs) q f = let y : s ≡ spuOf (tellChain bs untold) nothing = cc in (bs, q, y ∙ ap (λ (t : Told). spuOf t nothing) (folded bs))
 
 pub refused-by : (u : List ℕ) (n : ℕ) → control-answer.Refused n ≡ controlAnswer u → controlAt u ≡ refuse n
 refused-by u n e = go (controlAt u) refl e

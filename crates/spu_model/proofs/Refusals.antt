@@ -8,7 +8,7 @@ use Rattle.outcome.specs.Outcome.{Numbered, short-pixels, short-words, no-top-f
 use Rattle.outcome.proofs.Numbers.{in-table, check-numbered, cond-numbered, andThen-numbered, mapRes-numbered}
 use Rattle.grammar.specs.Bands.{bandWords, entryWords}
 use Rattle.grammar.specs.Control.{lengthWord, controlWord}
-use Rattle.grammar.specs.Record.{Told, told, width, height, untold, tellBlock, tellChain}
+use Rattle.grammar.specs.Record.{Told, told, width, height, commandsOf, commandsIn, firstDelay, lastDelay, lastNumbers, stands, allBands}
 use Rattle.grammar.specs.Picture.{topEnd}
 use Rattle.rle_model.specs.Codes.{fieldAt, codeFrom, codeAt, rowAt}
 use Rattle.rle_model.specs.Field.{rowsFrom}
@@ -65,5 +65,5 @@ pub orders :
     × (unitIn (unit 0x70 (0x06 ∷ 0x00 ∷ 0x05 ∷ 0x00 ∷ 0x00 ∷ 0x07 ∷ 0x00 ∷ 0x06 ∷ 0x00 ∷ 0x03 ∷ 0x00 ∷ 0x04 ∷ 0xFF ∷ [])) 1 2 ≡ refuse short-words)
     -- 25, and 26
     × (unitIn (unit 0x56 (0x05 ∷ 0x00 ∷ 0x00 ∷ 0x01 ∷ 0x00 ∷ 0x00 ∷ 0x03 ∷ 0x06 ∷ 0x00 ∷ 0x16 ∷ 0x00 ∷ 0x04 ∷ 0xFF ∷ [])) 8 0 ≡ refuse no-top-field)
-unfolding unitIn rowsAt fieldsAt lowerAt fieldAt rowAt codeAt codeFrom rowsFrom weave paints afterCodes align topEnd listFrom listFuel word nibbles nibble untold tellBlock tellChain entryWords bandWords bandsAt bandsOf entriesOf header entryOf held plainAt changeAt orderAt commandAt commandsAt blockAt blocksAt headFits chainAt controlAt
+unfolding unitIn rowsAt fieldsAt lowerAt fieldAt rowAt codeAt codeFrom rowsFrom weave paints afterCodes align topEnd listFrom listFuel word nibbles nibble entryWords bandWords bandsAt bandsOf entriesOf header entryOf held plainAt changeAt orderAt commandAt commandsAt blockAt blocksAt headFits chainAt controlAt told commandsOf commandsIn firstDelay lastDelay lastNumbers stands allBands
 orders = (refl, refl, refl, refl, refl, refl, refl, refl, refl, refl)

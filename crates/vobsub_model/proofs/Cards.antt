@@ -12,7 +12,7 @@ use Rattle.grammar.specs.IndexCues.{cuesOf, cueAt, paletteOf}
 use Rattle.grammar.specs.Packets.{unitOf}
 use Rattle.grammar.specs.Rows.{paints, afterCodes, align}
 use Rattle.grammar.specs.Control.{area, Block}
-use Rattle.grammar.specs.Record.{told, untold, tellBlock, tellChain}
+use Rattle.grammar.specs.Record.{told, commandsOf, commandsIn, firstDelay, lastDelay, lastNumbers, stands, allBands}
 use Rattle.grammar.specs.Picture.{topEnd}
 use Rattle.grammar.specs.Bands.{bandWords}
 use Rattle.grammar.specs.Reading.{Shown, wanted, canvasOf}
@@ -35,7 +35,7 @@ use Rattle.vobsub_model.specs.Answers.{canvasStored, shownOf, shownGiven
 
 -- `timestamp:0,filepos:0` and the unit `00 04 00 04`, with a map of one pixel and its canvas, are not refused
 pub least-title : refusalOf (readingIn (116 ∷ 105 ∷ 109 ∷ 101 ∷ 115 ∷ 116 ∷ 97 ∷ 109 ∷ 112 ∷ 58 ∷ 48 ∷ 44 ∷ 102 ∷ 105 ∷ 108 ∷ 101 ∷ 112 ∷ 111 ∷ 115 ∷ 58 ∷ 48 ∷ []) (0x00 ∷ 0x04 ∷ 0x00 ∷ 0x04 ∷ []) (wanted 0) (lent [] (9 ∷ []) [] (9 ∷ 9 ∷ 9 ∷ 9 ∷ []))) ≡ 0
-unfolding readingIn foundFor canvasIn textIn linesIn lineOf strip trim front rest shorn split partsAt firstOf lastOf fields steps unsigned signed bare all numeral startOf cuesOf cueAt unitAt formAt isBare unitOf word bandWords rowsAt fieldsAt lowerAt fieldAt rowAt codeAt codeFrom rowsFrom weave paints afterCodes align topEnd listFrom listFuel nibbles nibble untold tellBlock tellChain plainAt changeAt orderAt commandAt commandsAt blockAt blocksAt headFits chainAt controlAt
+unfolding readingIn foundFor canvasIn textIn linesIn lineOf strip trim front rest shorn split partsAt firstOf lastOf fields steps unsigned signed bare all numeral startOf cuesOf cueAt unitAt formAt isBare unitOf word bandWords rowsAt fieldsAt lowerAt fieldAt rowAt codeAt codeFrom rowsFrom weave paints afterCodes align topEnd listFrom listFuel nibbles nibble plainAt changeAt orderAt commandAt commandsAt blockAt blocksAt headFits chainAt controlAt told commandsOf commandsIn firstDelay lastDelay lastNumbers stands allBands
 least-title = refl
 
 -- the canvas of the 2 by 2 title, from its reading and from its unit
@@ -62,5 +62,5 @@ pub values-recorded :
     (shownOf (cueAnswer (refuse no-cue)) (spuOf (told blocks) (record { codes = 5 })) .x1 ≡ 1)
     × (shownOf (cueAnswer (refuse no-cue)) (spuOf (told blocks) (record { codes = 5 })) .y1 ≡ 2)
     × (shownOf (cueAnswer (refuse no-cue)) (spuOf (told blocks) (record { codes = 5 })) .counts .codes ≡ 5)
-unfolding spuOf untold tellBlock tellChain
+unfolding spuOf told commandsOf commandsIn firstDelay lastDelay lastNumbers stands allBands
 values-recorded = (refl, refl, refl)

@@ -10,7 +10,9 @@ use Rattle.grammar.specs.Rows.{Code}
 use Rattle.grammar.specs.Bands.{bandWords}
 use Rattle.grammar.specs.Look.{Look}
 use Rattle.grammar.specs.Control.{Order, forced-start, start, stop, selectors, alphas, area, offsets, colours, Command, commandEnd, Block, Written, Commands, Chain, IsChain, lengthWord, controlWord}
-use Rattle.grammar.specs.Record.{Told, untold, tell, tellBlock, tellChain, told}
+use Rattle.grammar.specs.Record.{Told, told}
+use Rattle.control_model.specs.Fold.{untold, tell, tellBlock, tellChain}
+use Rattle.control_model.proofs.Fold.{folded}
 use Rattle.grammar.specs.Pixels.{rowPixels, indexMap}
 use Rattle.grammar.specs.Canvas.{orOwn, ownLook, toldLook, lineBytes, canvasBytes}
 use Rattle.bands_model.specs.Look.{Counted}
@@ -49,7 +51,7 @@ told-chain u L p (b ∷ bs) t w h =
 
 pub told-counted : (u : List ℕ) (bs : List Block) → IsChain u bs → Counted (told bs .bands)
 unfolding untold Counted
-told-counted u bs h = told-chain u (lengthWord u) (controlWord u) bs untold (h .chain) tt
+told-counted u bs h = subst (λ (t : Told). Counted (t .bands)) (folded bs) (told-chain u (lengthWord u) (controlWord u) bs untold (h .chain) tt)
 
 -- so that stored words give what the bands give
 pub told-look : (t : Told) → Counted (t .bands) → wordLook (bandWords (t .bands)) (ownLook t) ≡ toldLook t

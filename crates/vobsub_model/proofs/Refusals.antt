@@ -8,7 +8,7 @@ use lib.ListN.{length}
 use Rattle.outcome.specs.Outcome.{Numbered, need, no-cue, short-pixels, short-words, short-canvas, refuse, bad-position, short-scratch, no-area}
 use Rattle.outcome.proofs.Numbers.{in-table, check-numbered, need-numbered, andThen-numbered, mapRes-numbered}
 use Rattle.grammar.specs.Bands.{bandWords, entryWords}
-use Rattle.grammar.specs.Record.{told, width, height, untold, tellBlock, tellChain}
+use Rattle.grammar.specs.Record.{told, width, height, commandsOf, commandsIn, firstDelay, lastDelay, lastNumbers, stands, allBands}
 use Rattle.grammar.specs.IndexCues.{cuesOf, cueAt}
 use Rattle.grammar.specs.Packets.{unitOf, joined}
 use Rattle.grammar.specs.Reading.{Wanted, wantedId, wanted}
@@ -82,5 +82,5 @@ pub canvas-orders :
     × (canvasIn (unit (0x06 ∷ 0xFF ∷ 0xFF ∷ 0x00 ∷ 0x00 ∷ 0xFF ∷ [])) 1 0 3 ≡ refuse short-canvas)
     -- 24, and 26
     × (canvasIn (unit (0x06 ∷ 0x00 ∷ 0x05 ∷ 0x00 ∷ 0x00 ∷ 0xFF ∷ [])) 1 0 3 ≡ refuse short-canvas)
-unfolding canvasIn rowsAt listFrom listFuel word nibbles nibble untold tellBlock tellChain entryWords bandWords bandsAt bandsOf entriesOf header entryOf held plainAt changeAt orderAt commandAt commandsAt blockAt blocksAt headFits chainAt controlAt
+unfolding canvasIn rowsAt listFrom listFuel word nibbles nibble entryWords bandWords bandsAt bandsOf entriesOf header entryOf held plainAt changeAt orderAt commandAt commandsAt blockAt blocksAt headFits chainAt controlAt told commandsOf commandsIn firstDelay lastDelay lastNumbers stands allBands
 canvas-orders = (refl, refl, refl, refl, refl)

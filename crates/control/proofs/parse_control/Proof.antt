@@ -3,7 +3,7 @@ use borrow.Author.Needs.{needs}
 use native.Mathlib.Omega.{arith}
 use mathlib.Core.Path.{sym, _∙_}
 use mathlib.Core.Option.{some}
-use Rattle.grammar.specs.Record.{untold}
+use Rattle.control_model.specs.Fold.{untold}
 use Rattle.control_model.specs.Chain.{blocksAt}
 use Rattle.control_model.specs.Answers.{chainAnswer}
 use Rattle.control_model.proofs.Loops.{unit-short, unit-early, unit-late, unit-past, unit-refused, unit-narrow, unit-low, unit-told}

@@ -4,7 +4,7 @@ use native.Mathlib.Omega.{arith}
 use Prim.Native.Nat.{_-_}
 use mathlib.Core.Path.{sym, _∙_}
 use Rattle.grammar.specs.Bands.{bandWords}
-use Rattle.grammar.specs.Record.{untold}
+use Rattle.control_model.specs.Fold.{untold}
 use Rattle.control_model.specs.Answers.{spuOf}
 use Rattle.control_model.proofs.Loops.{Chaining, chaining-starts, chaining-ends, chaining-refuses, chaining-last, chaining-goes}
 use Rattle.control.proofs.read_chain.Statement.{statement}
