@@ -18,7 +18,7 @@ use Rattle.idx_numbers_model.specs.Answers.{valueIn}
 use Rattle.idx_numbers_model.specs.declared.Number.{Number}
 use Rattle.idx_numbers_model.specs.declared.Number.the-variants.{Is, Bad}
 use Rattle.idx_numbers_model.proofs.Loops.{drop-front, front-le, take-front}
-use Rattle.table.specs.Table.{partAt, orZero, numberOf, hexDigit, bytesOf, Written, Stored}
+use Rattle.table.specs.Table.{partAt, orZero, numberOf, givenAt, hexDigit, bytesOf, Written, Stored}
 use Rattle.table.specs.declared.Item.{Item}
 
 -- ---- Parts
@@ -133,3 +133,10 @@ storing-ends s out₀ i n out g h =
     let z : drop i s ≡ [] = drop-of-length-le s h in
     let b : bytesOf (drop i s) ≡ [] = ap bytesOf z in
     record { count = omega (arith, g .count, ap length b); held = sym (ap (sets out n) b) ∙ g .held }
+
+-- the parts of a row
+pub given-is : (s : List ℕ) (k : ℕ) (a b : List ℕ) (r : ℕ) → a ≡ partAt 124 2 s → b ≡ partAt 32 k a → r ≡ numberOf b → r ≡ givenAt s k
+given-is s k a b r p q e = e ∙ ap numberOf (q ∙ ap (partAt 32 k) p)
+
+pub stored-is : (a b out out′ : List ℕ) (r : ℕ) → a ≡ b → Stored a out r out′ → Stored b out r out′
+stored-is a b out out′ r p g = record { count = g .count ∙ ap (λ (t : List ℕ). length (bytesOf t)) p; held = g .held ∙ ap (λ (t : List ℕ). sets out 0 (bytesOf t)) p }

@@ -25,6 +25,10 @@ orZero (some n) = n
 abbrev pub numberOf : List ℕ → ℕ
 numberOf s = orZero (unsigned 10 18446744073709551615 s)
 
+-- number k of a row: numbers are its third part
+abbrev pub givenAt : List ℕ → ℕ → ℕ
+givenAt s k = numberOf (partAt 32 k (partAt 124 2 s))
+
 -- what a hexadecimal digit stands for, 0 to 9 or A to F: the low half of its byte, and 9 more for a letter
 abbrev pub hexDigit : ℕ → ℕ
 hexDigit c = (c % 16 + c / 64 * 9) % 16

@@ -7,7 +7,7 @@ use outcome::lesser;
 ghost use mathlib.Core.Path.{_≡_};
 ghost use Prim.Native.Nat.{_+_, _*_, _<_};
 ghost use lib.ListN.{length, set};
-ghost use Rattle.table.specs.Table.{partAt, numberOf, hexDigit, Written, Stored};
+ghost use Rattle.table.specs.Table.{partAt, numberOf, givenAt, hexDigit, Written, Stored};
 
 // A byte that a text writes, and the place after what writes it.
 struct Item {
@@ -96,4 +96,20 @@ pub fn bytes(s: &[u8], out: &mut [u8]) -> usize
         i = item.next;
     }
     n
+}
+
+// Number k of a row, whose parts have bars between them: numbers are its third part, with blanks between them.
+// Ruled out: a number of another part; the next number for one that is not there.
+pub fn given(line: &[u8], k: usize) -> usize
+    ensures { λ r. ⌜ r ≡ givenAt (now (line .entry)) k ⌝ }
+{
+    number(part(part(line, b'|', 2), b' ', k))
+}
+
+// The bytes that part k of a row writes, stored as `bytes` stores them.
+// Ruled out: bytes of another part.
+pub fn stored(line: &[u8], k: usize, out: &mut [u8]) -> usize
+    ensures { λ r. ⌜ Stored (partAt 124 k (now (line .entry))) (now (out .entry)) r (now (out .exit)) ⌝ }
+{
+    bytes(part(line, b'|', k), out)
 }

@@ -1,0 +1,54 @@
+-- `rows::signed` is safe and ends: below 0 it is -1 less itself, and one more. Assumes nothing.
+use borrow.Author.Needs.{needs}
+use native.Mathlib.Omega.{arith}
+use mir.Syntax.{w64}
+use mir.Facts.{toZ-ofZ}
+use Rattle.idx_numbers_model.proofs.Times.{yes-lt, no-lt}
+use Rattle.idx_numbers_model.proofs.Minus.{minus-fits, minus-cast, minus-below, plain-cast}
+use Rattle.rows.proofs.signed.Statement.{statement}
+use Rattle.rows.proofs.signed.Tie as tie
+
+slice-aggregate-say : tie.Need-slice-aggregate-say
+slice-aggregate-say c = search needs
+
+say-requires : tie.Need-say-requires
+say-requires c κs = search needs
+
+sub-n : tie.Need-sub-n
+sub-n c = minus-fits (c .before .before .before .args .z) _ (c .before .before .before .fits .z) (toZ-ofZ {w = w64} (c .before .before .before .fits .z)) (yes-lt (rw (toZ-ofZ {w = w64} (c .before .before .before .fits .z)) at (c .before .before .if1 .taken)))
+
+cast-n : tie.Need-cast-n
+cast-n c = minus-cast (c .before .before .before .args .z) _ (c .before .before .before .fits .z) (toZ-ofZ {w = w64} (c .before .before .before .fits .z)) (yes-lt (rw (toZ-ofZ {w = w64} (c .before .before .before .fits .z)) at (c .before .before .if1 .taken)))
+
+add-print-decimal : tie.Need-add-print-decimal
+add-print-decimal c = omega (arith, minus-below (c .before .before .before .args .z) _ (c .before .before .before .fits .z) (toZ-ofZ {w = w64} (c .before .before .before .fits .z)) (yes-lt (rw (toZ-ofZ {w = w64} (c .before .before .before .fits .z)) at (c .before .before .if1 .taken))))
+
+print-decimal-requires : tie.Need-print-decimal-requires
+print-decimal-requires c κs = search needs
+
+cast-number : tie.Need-cast-number
+cast-number c = plain-cast (c .before .args .z) _ (c .before .fits .z) (toZ-ofZ {w = w64} (c .before .fits .z)) (no-lt (rw (toZ-ofZ {w = w64} (c .before .fits .z)) at (c .if1 .left)))
+
+number-requires : tie.Need-number-requires
+number-requires c κs = search needs
+
+returns : tie.Need-returns
+returns c = search needs
+
+returns-2 : tie.Need-returns-2
+returns-2 c = search needs
+
+pub signed-spec : {M : Type 1} → statement M
+signed-spec =
+    tie.close
+    (tie.spec
+    slice-aggregate-say
+    say-requires
+    sub-n
+    cast-n
+    add-print-decimal
+    print-decimal-requires
+    cast-number
+    number-requires
+    returns
+    returns-2)

@@ -1,0 +1,539 @@
+// Runs rows through the exported functions, and writes a line for each: the function, the row's name, its answer, and the memory lent for it,
+// with `.` for what is as found: bytes of 238, words of EEEE, starts of -77, positions of 77.
+// A line of standard input is a row: the function, its name, its numbers, its bytes, and for decode_cue the bytes of the file, with a bar between
+// them. The numbers are those of the call in its order, and how much memory is lent:
+// parse_and_decode_spu: map, words. extract_spu: position; scratch. parse_idx: starts, positions. pick_cue: cue. decode_cue: cue; scratch, map,
+// words, canvas. decode_rle_field: width, height, start row; map. parse_chg_colcon_payload: place; words; the first word that is written.
+use idx_numbers::starts;
+use libc::STDIN_FILENO;
+use libc::STDOUT_FILENO;
+
+const FOUND: u8 = 238;
+
+const FOUND_WORD: u16 = 0xEEEE;
+
+const FOUND_START: i64 = -77;
+
+const FOUND_POSITION: u64 = 77;
+
+fn say(s: &[u8]) {
+    io::write_all(STDOUT_FILENO, s);
+}
+
+fn digit(n: usize) {
+    let d = (n % 16) as u8;
+    if d < 10 {
+        say(&[48 + d]);
+    } else {
+        say(&[55 + d]);
+    }
+}
+
+fn hex(n: usize) {
+    digit(n / 16);
+    digit(n);
+}
+
+fn mark(c: u8, n: usize) {
+    let kind = c / 16;
+    if kind == 4 {
+        io::print_decimal(STDOUT_FILENO, n as u64);
+        return;
+    }
+    if kind == 5 {
+        hex(n / 256);
+        hex(n);
+        return;
+    }
+    say(&[c]);
+}
+
+fn of_byte(b: u8) -> usize {
+    b as usize
+}
+
+// Writes a form: for bytes 40 to 4F (`@`, `A` to `O`) number 0 to 15 in decimal, for 50 to 5F the same in hexadecimal, and others as they are.
+fn form(s: &[u8], numbers: &[usize; 16]) {
+    let mut i = 0;
+    while i < s.len() {
+        let c = s[i];
+        mark(c, numbers[of_byte(c) % 16]);
+        i += 1;
+    }
+}
+
+fn pair(s: &[u8], a: usize, b: usize) {
+    let mut numbers = [a; 16];
+    numbers[1] = b;
+    form(s, &numbers);
+}
+
+fn number(n: usize) {
+    form(b" @", &[n; 16]);
+}
+
+// Whether nothing is refused.
+fn answered(refusal: u8) -> bool {
+    if refusal == 0 {
+        return true;
+    }
+    form(b": refused @", &[refusal as usize; 16]);
+    false
+}
+
+fn of_word(w: u16) -> usize {
+    w as usize
+}
+
+fn value(bytes: &[u8], words: &[u16], i: usize) -> usize {
+    if i < bytes.len() {
+        return of_byte(bytes[i]);
+    }
+    if i < words.len() {
+        return of_word(words[i]);
+    }
+    65536
+}
+
+fn run(count: usize, value: usize, found: usize) {
+    if value == found {
+        form(b" @x.", &[count; 16]);
+        return;
+    }
+    pair(b" @xA", count, value);
+}
+
+// The n bytes or words in runs of equal values, `NxV`.
+fn runs(bytes: &[u8], words: &[u16], n: usize, found: usize) {
+    let mut from = 0;
+    let mut i = 0;
+    while i < n {
+        let v = value(bytes, words, i);
+        i += 1;
+        if value(bytes, words, i) != v {
+            run(i - from, v, found);
+            from = i;
+        }
+    }
+}
+
+fn byte_runs(label: &[u8], s: &[u8]) {
+    say(label);
+    runs(s, &[], s.len(), 238);
+}
+
+fn cell(v: usize, found: usize) {
+    if v == found {
+        say(b" .");
+        return;
+    }
+    say(b" ");
+    if 256 < found {
+        hex(v / 256);
+    }
+    hex(v);
+}
+
+// The n bytes or words in hexadecimal; bytes have a `found` of 256 where none is to be marked.
+fn cells(bytes: &[u8], words: &[u16], n: usize, found: usize) {
+    let mut i = 0;
+    while i < n {
+        cell(value(bytes, words, i), found);
+        i += 1;
+    }
+}
+
+fn word_cells(label: &[u8], s: &[u16]) {
+    say(label);
+    cells(b"", s, s.len(), 61166);
+}
+
+fn decoded(unit: &[u8], map: &mut [u8], words: &mut [u16]) {
+    let mut numbers: [usize; 16] = [0; 16];
+    let refusal = vobsub_c::vobsub_parse_and_decode_spu(unit, map, words, &mut numbers);
+    if answered(refusal) {
+        form(
+            b": area @ A B C, selectors T, alphas U, start F G, stop H I, forced J, offsets K L, change M, band words N, codes O",
+            &numbers,
+        );
+    }
+    byte_runs(b"; map", map);
+    word_cells(b"; words", words);
+}
+
+fn unit(bytes: &[u8], a: usize, b: usize) {
+    let mut map = [FOUND; 16];
+    let mut words = [FOUND_WORD; 16];
+    if a <= 16 {
+        if b <= 16 {
+            decoded(bytes, &mut map[..a], &mut words[..b]);
+        }
+    }
+}
+
+// The bytes of a part of s.
+fn part_of(s: &[u8], from: usize, length: usize) {
+    if from <= s.len() {
+        let rest = &s[from..];
+        cells(rest, &[], outcome::lesser(length, rest.len()), 256);
+    }
+}
+
+fn extracted(file: &[u8], position: usize, scratch: &mut [u8]) {
+    let mut length: usize = 0;
+    let mut joined: u8 = 0;
+    let refusal = vobsub_c::vobsub_extract_spu(file, position, scratch, &mut length, &mut joined);
+    if answered(refusal) {
+        if joined == 0 {
+            form(b": bare @,", &[length; 16]);
+            part_of(file, position, length);
+        } else {
+            form(b": joined @,", &[length; 16]);
+            part_of(scratch, 0, length);
+        }
+    }
+    say(b"; scratch");
+    cells(scratch, &[], scratch.len(), 238);
+}
+
+fn packets(file: &[u8], position: usize, room: usize) {
+    let mut scratch = [FOUND; 8];
+    if room <= 8 {
+        extracted(file, position, &mut scratch[..room]);
+    }
+}
+
+fn signed(z: i64) {
+    if z < 0 {
+        say(b" -");
+        let n = (-1 - z) as u64;
+        io::print_decimal(STDOUT_FILENO, n + 1);
+    } else {
+        number(z as usize);
+    }
+}
+
+fn start(z: i64) {
+    if z == FOUND_START {
+        say(b" .");
+    } else {
+        signed(z);
+    }
+}
+
+fn all_starts(starts: &[i64]) {
+    say(b"; starts");
+    let mut i = 0;
+    while i < starts.len() {
+        let z = starts[i];
+        start(z);
+        i += 1;
+    }
+}
+
+fn of_long(n: u64) -> usize {
+    n as usize
+}
+
+fn position(n: u64) {
+    if n == FOUND_POSITION {
+        say(b" .");
+    } else {
+        number(of_long(n));
+    }
+}
+
+fn all_positions(positions: &[u64]) {
+    say(b"; positions");
+    let mut i = 0;
+    while i < positions.len() {
+        position(positions[i]);
+        i += 1;
+    }
+}
+
+// Whether there is a palette, and its colours.
+fn colours(any: usize, palette: &[u8; 48]) {
+    form(b", palette @", &[any; 16]);
+    if any == 0 {
+        return;
+    }
+    let mut i = 0;
+    while i < 48 {
+        if i % 3 == 0 {
+            say(b" ");
+        }
+        hex(of_byte(palette[i]));
+        i += 1;
+    }
+}
+
+fn indexed(text: &[u8], starts: &mut [i64], positions: &mut [u64]) {
+    let mut palette: [u8; 48] = [0; 48];
+    let mut numbers: [usize; 4] = [0; 4];
+    let refusal = vobsub_c::vobsub_parse_idx(text, starts, positions, &mut palette, &mut numbers);
+    if answered(refusal) {
+        pair(b": size @ A", numbers[0], numbers[1]);
+        colours(numbers[2], &palette);
+        form(b", cues @", &[numbers[3]; 16]);
+    }
+    all_starts(starts);
+    all_positions(positions);
+}
+
+fn index(text: &[u8], a: usize, b: usize) {
+    let mut starts = [FOUND_START; 8];
+    let mut positions = [FOUND_POSITION; 8];
+    if a <= 8 {
+        if b <= 8 {
+            indexed(text, &mut starts[..a], &mut positions[..b]);
+        }
+    }
+}
+
+fn sizes(numbers: &[u64; 9]) -> [usize; 16] {
+    let mut all = [0; 16];
+    let mut i = 0;
+    while i < 9 {
+        all[i] = of_long(numbers[i]);
+        i += 1;
+    }
+    all
+}
+
+fn lasts(set: u64, duration: u64) {
+    if set == 0 {
+        say(b" -");
+    } else {
+        number(of_long(duration));
+    }
+}
+
+fn cue(text: &[u8], n: usize) {
+    let mut start: i64 = 0;
+    let mut palette: [u8; 48] = [0; 48];
+    let mut numbers: [u64; 4] = [0; 4];
+    form(b", cue @", &[n; 16]);
+    let refusal = vobsub_c::vobsub_pick_cue(text, n, &mut start, &mut palette, &mut numbers);
+    if answered(refusal) {
+        say(b": start");
+        signed(start);
+        form(b", position @, duration", &[of_long(numbers[0]); 16]);
+        lasts(numbers[1], numbers[2]);
+        colours(of_long(numbers[3]), &palette);
+    }
+}
+
+fn shown(refusal: u8, start: i64, numbers: &[u64; 9]) {
+    if answered(refusal) {
+        say(b":");
+        signed(start);
+        lasts(numbers[0], numbers[1]);
+        form(b", at D E, size F G, delays B C, codes H", &sizes(numbers));
+    }
+}
+
+fn word_runs(label: &[u8], s: &[u16]) {
+    say(label);
+    runs(b"", s, s.len(), 61166);
+}
+
+fn painted(
+    line: &[u8],
+    text: &[u8],
+    file: &[u8],
+    scratch: &mut [u8],
+    map: &mut [u8],
+    words: &mut [u16],
+    canvas: &mut [u8],
+) {
+    let mut start: i64 = 0;
+    let mut numbers: [u64; 9] = [0; 9];
+    let refusal = vobsub_c::vobsub_decode_cue(
+        text,
+        file,
+        table::given(line, 0),
+        scratch,
+        map,
+        words,
+        canvas,
+        &mut start,
+        &mut numbers,
+    );
+    shown(refusal, start, &numbers);
+    byte_runs(b"; scratch", scratch);
+    byte_runs(b"; map", map);
+    word_runs(b"; words", words);
+    byte_runs(b"; canvas", canvas);
+}
+
+fn lent(line: &[u8], text: &[u8], file: &[u8]) {
+    let mut scratch = [FOUND; 400];
+    let mut map = [FOUND; 300];
+    let mut words = [FOUND_WORD; 40];
+    let mut canvas = [FOUND; 1200];
+    let a = table::given(line, 1);
+    let b = table::given(line, 2);
+    let c = table::given(line, 3);
+    let d = table::given(line, 4);
+    if a <= 400 {
+        if b <= 300 {
+            if c <= 40 {
+                if d <= 1200 {
+                    painted(
+                        line,
+                        text,
+                        file,
+                        &mut scratch[..a],
+                        &mut map[..b],
+                        &mut words[..c],
+                        &mut canvas[..d],
+                    );
+                }
+            }
+        }
+    }
+}
+
+fn with_file(line: &[u8], text: &[u8], file: &[u8], n: usize) {
+    if n <= file.len() {
+        lent(line, text, &file[..n]);
+    }
+}
+
+fn paint(line: &[u8], text: &[u8]) {
+    let mut file = [0; 8192];
+    let n = table::stored(line, 4, &mut file);
+    with_file(line, text, &file, n);
+}
+
+fn field_decoded(field: &[u8], width: usize, height: usize, start_row: usize, map: &mut [u8]) {
+    let mut codes: usize = 0;
+    let refusal = vobsub_c::vobsub_decode_rle_field(
+        field,
+        width,
+        height,
+        start_row,
+        map,
+        &mut codes,
+    );
+    if answered(refusal) {
+        form(b": codes @", &[codes; 16]);
+    }
+    byte_runs(b",", map);
+}
+
+fn field(line: &[u8], bytes: &[u8], width: usize, height: usize) {
+    let mut map = [FOUND; 60000];
+    let room = table::given(line, 3);
+    if room <= 60000 {
+        field_decoded(
+            bytes,
+            width,
+            height,
+            table::given(line, 2),
+            &mut map[..room],
+        );
+    }
+}
+
+fn bands_stored(payload: &[u8], place: usize, words: &mut [u16], from: usize) {
+    let mut count: usize = 0;
+    let refusal = vobsub_c::vobsub_parse_chg_colcon_payload(payload, words, place, &mut count);
+    if answered(refusal) {
+        form(b": words @", &[count; 16]);
+    }
+    if from == 0 {
+        word_cells(b",", words);
+        return;
+    }
+    if from <= words.len() {
+        form(b", the last @", &[words.len() - from; 16]);
+        word_cells(b"", &words[from..]);
+    }
+}
+
+fn bands(line: &[u8], payload: &[u8], place: usize, room: usize) {
+    let mut words = [FOUND_WORD; 256];
+    if room <= 256 {
+        bands_stored(payload, place, &mut words[..room], table::given(line, 2));
+    }
+}
+
+fn asked(line: &[u8], bytes: &[u8]) {
+    let a = table::given(line, 0);
+    let b = table::given(line, 1);
+    if starts(line, b"parse_and_decode_spu|") {
+        unit(bytes, a, b);
+    }
+    if starts(line, b"extract_spu|") {
+        packets(bytes, a, b);
+    }
+    if starts(line, b"parse_idx|") {
+        index(bytes, a, b);
+    }
+    if starts(line, b"pick_cue|") {
+        cue(bytes, a);
+    }
+    if starts(line, b"decode_cue|") {
+        paint(line, bytes);
+    }
+    if starts(line, b"decode_rle_field|") {
+        field(line, bytes, a, b);
+    }
+    if starts(line, b"parse_chg_colcon_payload|") {
+        bands(line, bytes, a, b);
+    }
+}
+
+fn with_bytes(line: &[u8], bytes: &[u8], n: usize) {
+    if n <= bytes.len() {
+        asked(line, &bytes[..n]);
+    }
+}
+
+fn row(line: &[u8]) {
+    let mut bytes = [0; 8192];
+    let n = table::stored(line, 3, &mut bytes);
+    say(table::part(line, b'|', 0));
+    say(b"|");
+    say(table::part(line, b'|', 1));
+    with_bytes(line, &bytes, n);
+    say(b"\n");
+}
+
+// Reads up to the next line end, and answers how many bytes stand before it.
+fn next_line(text: &mut [u8]) -> usize {
+    let mut n = 0;
+    while n < text.len() {
+        let e = n + 1;
+        if io::read_full(STDIN_FILENO, &mut text[n..e]) == 0 {
+            return n;
+        }
+        if text[n] == b'\n' {
+            return n;
+        }
+        n = e;
+    }
+    n
+}
+
+// The rows up to an empty line or the end of input.
+fn rows(text: &mut [u8]) {
+    let mut k: usize = 0;
+    while k < 18446744073709551615 {
+        let n = next_line(text);
+        if n == 0 {
+            return;
+        }
+        if n <= text.len() {
+            row(&text[..n]);
+        }
+        k += 1;
+    }
+}
+
+fn main() {
+    let mut text = io::large_buffer();
+    rows(&mut text);
+}
