@@ -208,211 +208,112 @@ fn canvas(
     as_expected(e, r, mixed_bytes(t, bytes))
 }
 
-fn packets_front(
-    bytes: &[u8],
-    position: usize,
-    scratch: &mut [u8],
-    room: usize,
-    e: Expected,
-) -> bool {
-    if room <= scratch.len() {
+fn packets_row(bytes: &[u8], position: usize, room: usize, e: Expected) -> bool {
+    let mut scratch = [BYTE; 8192];
+    if room <= 8192 {
         return packets(bytes, position, &mut scratch[..room], e);
     }
     false
 }
 
-fn bands_front(bytes: &[u8], at: usize, words: &mut [u16], room: usize, e: Expected) -> bool {
-    if room <= words.len() {
+fn bands_row(bytes: &[u8], at: usize, room: usize, e: Expected) -> bool {
+    let mut words = [WORD; 1024];
+    if room <= 1024 {
         return bands(bytes, at, &mut words[..room], e);
     }
     false
 }
 
-fn field_front(
+fn field_row(
     bytes: &[u8],
     width: usize,
     height: usize,
     start: usize,
-    map: &mut [u8],
     room: usize,
     e: Expected,
 ) -> bool {
-    if room <= map.len() {
+    let mut map = [BYTE; 8192];
+    if room <= 8192 {
         return field(bytes, width, height, start, &mut map[..room], e);
     }
     false
 }
 
-fn written_front(
-    bytes: &[u8],
-    width: usize,
-    height: usize,
-    out: &mut [u8],
-    room: usize,
-    e: Expected,
-) -> bool {
-    if room <= out.len() {
+fn written_row(bytes: &[u8], width: usize, height: usize, room: usize, e: Expected) -> bool {
+    let mut out = [BYTE; 8192];
+    if room <= 8192 {
         return written(bytes, width, height, &mut out[..room], e);
     }
     false
 }
 
-fn unit_words(bytes: &[u8], map: &mut [u8], words: &mut [u16], more: usize, e: Expected) -> bool {
-    if more <= words.len() {
-        return unit(bytes, map, &mut words[..more], e);
+fn unit_row(bytes: &[u8], room: usize, more: usize, e: Expected) -> bool {
+    let mut map = [BYTE; 8192];
+    let mut words = [WORD; 1024];
+    if room <= 8192 {
+        if more <= 1024 {
+            return unit(bytes, &mut map[..room], &mut words[..more], e);
+        }
     }
     false
 }
 
-fn unit_front(
-    bytes: &[u8],
-    map: &mut [u8],
-    room: usize,
-    words: &mut [u16],
-    more: usize,
-    e: Expected,
-) -> bool {
-    if room <= map.len() {
-        return unit_words(bytes, &mut map[..room], words, more, e);
-    }
-    false
-}
-
-fn index_positions(
-    bytes: &[u8],
-    starts: &mut [i64],
-    positions: &mut [u64],
-    more: usize,
-    e: Expected,
-) -> bool {
-    if more <= positions.len() {
-        return index(bytes, starts, &mut positions[..more], e);
-    }
-    false
-}
-
-fn index_front(
-    bytes: &[u8],
-    starts: &mut [i64],
-    room: usize,
-    positions: &mut [u64],
-    more: usize,
-    e: Expected,
-) -> bool {
-    if room <= starts.len() {
-        return index_positions(bytes, &mut starts[..room], positions, more, e);
-    }
-    false
-}
-
-// The text's row, with buffers of so many places.
 fn index_row(bytes: &[u8], room: usize, more: usize, e: Expected) -> bool {
     let mut starts = [START; 64];
     let mut positions = [NUMBER as u64; 64];
-    index_front(bytes, &mut starts, room, &mut positions, more, e)
+    if room <= 64 {
+        if more <= 64 {
+            return index(bytes, &mut starts[..room], &mut positions[..more], e);
+        }
+    }
+    false
 }
 
-fn canvas_parts(
-    row: &[u8],
-    length: usize,
+fn canvas_lent(
+    text: &[u8],
+    file: &[u8],
     n: usize,
-    scratch: &mut [u8],
-    map: &mut [u8],
-    words: &mut [u16],
-    bytes: &mut [u8],
-    e: Expected,
-) -> bool {
-    if length <= row.len() {
-        return canvas(
-            &row[..length],
-            &row[length..],
-            n,
-            scratch,
-            map,
-            words,
-            bytes,
-            e,
-        );
-    }
-    false
-}
-
-// The text's length in four bytes, the cue in two, then text and file.
-fn canvas_head(
-    row: &[u8],
-    scratch: &mut [u8],
-    map: &mut [u8],
-    words: &mut [u16],
-    bytes: &mut [u8],
-    e: Expected,
-) -> bool {
-    if row.len() < 6 {
-        return false;
-    }
-    let length = long_of(row[0], row[1], row[2], row[3]) as usize;
-    let n = word_of(row[4], row[5]);
-    canvas_parts(&row[6..], length, n, scratch, map, words, bytes, e)
-}
-
-fn canvas_front(
-    row: &[u8],
-    scratch: &mut [u8],
-    map: &mut [u8],
-    words: &mut [u16],
-    bytes: &mut [u8],
-    room: usize,
-    e: Expected,
-) -> bool {
-    if room <= bytes.len() {
-        return canvas_head(row, scratch, map, words, &mut bytes[..room], e);
-    }
-    false
-}
-
-fn canvas_words(
-    row: &[u8],
-    scratch: &mut [u8],
-    map: &mut [u8],
-    words: &mut [u16],
-    more: usize,
-    room: usize,
-    e: Expected,
-) -> bool {
-    let mut bytes = [BYTE; 4096];
-    if more <= words.len() {
-        return canvas_front(row, scratch, map, &mut words[..more], &mut bytes, room, e);
-    }
-    false
-}
-
-fn canvas_map(
-    row: &[u8],
-    scratch: &mut [u8],
-    map: &mut [u8],
-    most: usize,
-    more: usize,
-    room: usize,
-    e: Expected,
-) -> bool {
-    let mut words = [WORD; 256];
-    if most <= map.len() {
-        return canvas_words(row, scratch, &mut map[..most], &mut words, more, room, e);
-    }
-    false
-}
-
-fn canvas_scratch(
-    row: &[u8],
-    scratch: &mut [u8],
     a: usize,
     b: usize,
     c: usize,
     d: usize,
     e: Expected,
 ) -> bool {
+    let mut scratch = [BYTE; 8192];
     let mut map = [BYTE; 1024];
-    if a <= scratch.len() {
-        return canvas_map(row, &mut scratch[..a], &mut map, b, c, d, e);
+    let mut words = [WORD; 256];
+    let mut bytes = [BYTE; 4096];
+    if a <= 8192 {
+        if b <= 1024 {
+            if c <= 256 {
+                if d <= 4096 {
+                    return canvas(
+                        text,
+                        file,
+                        n,
+                        &mut scratch[..a],
+                        &mut map[..b],
+                        &mut words[..c],
+                        &mut bytes[..d],
+                        e,
+                    );
+                }
+            }
+        }
+    }
+    false
+}
+
+// The text's length in four bytes, the cue in two, then text and file.
+fn canvas_row(row: &[u8], a: usize, b: usize, c: usize, d: usize, e: Expected) -> bool {
+    if row.len() < 6 {
+        return false;
+    }
+    let length = long_of(row[0], row[1], row[2], row[3]) as usize;
+    let n = word_of(row[4], row[5]);
+    let rest = &row[6..];
+    if length <= rest.len() {
+        return canvas_lent(&rest[..length], &rest[length..], n, a, b, c, d, e);
     }
     false
 }
@@ -427,25 +328,23 @@ fn long_of(a: u8, b: u8, c: u8, d: u8) -> u64 {
 
 // The row of a class with these bytes and four numbers.
 fn row(class: u8, bytes: &[u8], a: usize, b: usize, c: usize, d: usize, e: Expected) -> bool {
-    let mut map = [BYTE; 8192];
-    let mut words = [WORD; 1024];
     if class == 1 {
         return pes(bytes, e);
     }
     if class == 2 {
-        return packets_front(bytes, a, &mut map, b, e);
+        return packets_row(bytes, a, b, e);
     }
     if class == 3 {
-        return bands_front(bytes, a, &mut words, b, e);
+        return bands_row(bytes, a, b, e);
     }
     if class == 4 {
-        return field_front(bytes, a, b, c, &mut map, d, e);
+        return field_row(bytes, a, b, c, d, e);
     }
     if class == 5 {
-        return unit_front(bytes, &mut map, a, &mut words, b, e);
+        return unit_row(bytes, a, b, e);
     }
     if class == 6 {
-        return written_front(bytes, a, b, &mut map, c, e);
+        return written_row(bytes, a, b, c, e);
     }
     if class == 7 {
         return index_row(bytes, a, b, e);
@@ -454,7 +353,7 @@ fn row(class: u8, bytes: &[u8], a: usize, b: usize, c: usize, d: usize, e: Expec
         return cue(bytes, a, e);
     }
     if class == 9 {
-        return canvas_scratch(bytes, &mut map, a, b, c, d, e);
+        return canvas_row(bytes, a, b, c, d, e);
     }
     false
 }
