@@ -1,11 +1,13 @@
-// Runs rows of functions that are not exported, and rows whose files or pictures code builds, and writes a line for each: the function, the row's
-// name, and its answer.
-// A line of standard input is a row: the function, its name, its numbers and its bytes, with a bar between them. The numbers:
-// read_code, read_through, align_through: a place. chg_colcon_lookup: column, line; the bands are those of the bytes, or the words that stand
-// behind another bar. measure_spu: none. extract_spu: position, scratch; the bytes are the head of a file of 65,555 bytes, each i % 251, and those
-// behind another bar stand at 32,774. build_demo_spu: width, height, output, and for a picture that code builds its size, n, p and k: bytes 1 and
-// 2 in turn, n at a time, but from 126,976 on p of them in pairs; or, where k is not 0, each of the first k pictures, whose bytes are the digits of
-// its number to base 4.
+// Runs rows of functions that are not exported, and rows whose files or pictures code builds, and writes a line for
+// each: the function, the row's name, and its answer.
+// A line of standard input is a row: the function, its name, its numbers and its bytes, with a bar between them. The
+// numbers:
+// read_code, read_through, align_through: a place. chg_colcon_lookup: column, line; the bands are those of the bytes,
+// or the words that stand behind another bar. measure_spu: none. extract_spu: position, scratch; the bytes are the head
+// of a file of 65,555 bytes, each i % 251, and those behind another bar stand at 32,774. build_demo_spu: width, height,
+// output, and for a picture that code builds its size, n, p and k: bytes 1 and 2 in turn, n at a time, but from 126,976
+// on p of them in pairs; or, where k is not 0, each of the first k pictures, whose bytes are the digits of its number
+// to base 4.
 use bands_model::BandAnswer;
 use bands_model::LookAnswer;
 use control_model::Spu;
@@ -57,7 +59,8 @@ fn of_byte(b: u8) -> usize {
     b as usize
 }
 
-// Writes a form: for bytes 40 to 4F (`@`, `A` to `O`) number 0 to 15 in decimal, for 50 to 5F the same in hexadecimal, and others as they are.
+// Writes a form: for bytes 40 to 4F (`@`, `A` to `O`) number 0 to 15 in decimal, for 50 to 5F the same in hexadecimal,
+// and others as they are.
 fn form(s: &[u8], numbers: &[usize; 16]) {
     let mut i = 0;
     while i < s.len() {
@@ -203,8 +206,8 @@ fn total(s: &[u8]) -> usize {
     sum
 }
 
-fn summed(file: &[u8], scratch: &mut [u8]) {
-    let answer = ps::extract_spu(file, 0, scratch);
+fn summed(file: &[u8], position: usize, scratch: &mut [u8]) {
+    let answer = ps::extract_spu(file, position, scratch);
     match answer {
         UnitAnswer::Bare(n) => {
             said(b": bare @,", n);
@@ -218,15 +221,15 @@ fn summed(file: &[u8], scratch: &mut [u8]) {
     }
     said(
         b" sum @",
-        total(ps::unit_part(file, &scratch[..], 0, answer)),
+        total(ps::unit_part(file, &scratch[..], position, answer)),
     );
     said(b"; scratch sum @", total(scratch));
 }
 
-fn with_scratch(file: &[u8], room: usize) {
+fn with_scratch(file: &[u8], position: usize, room: usize) {
     let mut scratch = [FOUND; 65536];
     if room <= 65536 {
-        summed(file, &mut scratch[..room]);
+        summed(file, position, &mut scratch[..room]);
     }
 }
 
@@ -238,7 +241,7 @@ fn packets(line: &[u8], file: &mut [u8]) {
         return;
     }
     table::stored(line, 4, &mut file[32774..]);
-    with_scratch(file, table::given(line, 1));
+    with_scratch(file, table::given(line, 0), table::given(line, 1));
 }
 
 fn longest(line: &[u8]) {
@@ -468,7 +471,7 @@ fn with_bytes(line: &[u8], bytes: &[u8], n: usize) {
 }
 
 fn row(line: &[u8]) {
-    let mut bytes = [0; 256];
+    let mut bytes = [0; 8192];
     let n = table::stored(line, 3, &mut bytes);
     say(table::part(line, b'|', 0));
     say(b"|");

@@ -1,9 +1,10 @@
-// Runs rows through the exported functions, and writes a line for each: the function, the row's name, its answer, and the memory lent for it,
-// with `.` for what is as found: bytes of 238, words of EEEE, starts of -77, positions of 77.
-// A line of standard input is a row: the function, its name, its numbers, its bytes, and for decode_cue the bytes of the file, with a bar between
-// them. The numbers are those of the call in its order, and how much memory is lent:
-// parse_and_decode_spu: map, words. extract_spu: position; scratch. parse_idx: starts, positions. pick_cue: cue. decode_cue: cue; scratch, map,
-// words, canvas. decode_rle_field: width, height, start row; map. parse_chg_colcon_payload: place; words; the first word that is written.
+// Runs rows through the exported functions, and writes a line for each: the function, the row's name, its answer, and
+// the memory lent for it, with `.` for what is as found: bytes of 238, words of EEEE, starts of -77, positions of 77.
+// A line of standard input is a row: the function, its name, its numbers, its bytes, and for decode_cue the bytes of
+// the file, with a bar between them. The numbers are those of the call in its order, and how much memory is lent:
+// parse_and_decode_spu: map, words. extract_spu: position; scratch. parse_idx: starts, positions. pick_cue: cue.
+// decode_cue: cue; scratch, map, words, canvas. decode_rle_field: width, height, start row; map.
+// parse_chg_colcon_payload: place; words; the first word that is written.
 use idx_numbers::starts;
 use libc::STDIN_FILENO;
 use libc::STDOUT_FILENO;
@@ -52,7 +53,8 @@ fn of_byte(b: u8) -> usize {
     b as usize
 }
 
-// Writes a form: for bytes 40 to 4F (`@`, `A` to `O`) number 0 to 15 in decimal, for 50 to 5F the same in hexadecimal, and others as they are.
+// Writes a form: for bytes 40 to 4F (`@`, `A` to `O`) number 0 to 15 in decimal, for 50 to 5F the same in hexadecimal,
+// and others as they are.
 fn form(s: &[u8], numbers: &[usize; 16]) {
     let mut i = 0;
     while i < s.len() {
