@@ -1,10 +1,10 @@
 -- Cards for painting and for what a reading gives. The call shares these definitions with the grammar, and the claim so does not guard
 -- them: nibbles of four, the bytes of a pixel, bands at a place, the order of canvas bytes, and the fields of a reading. One test over the
 -- table. Assumes nothing.
-use Prim.Native.Nat.{ℕ, _*_}
+use Prim.Native.Nat.{ℕ, _*_, _+_}
 use mathlib.Core.Path.{_≡_, refl}
 use mathlib.Core.Option.{Option, some, none}
-use mathlib.Core.List.{List, [], _∷_, map}
+use mathlib.Core.List.{List, [], _∷_, map, _++_}
 use lib.IntN.{ℤ, pos, negsuc}
 use Rattle.grammar.specs.Bytes.{word}
 use Rattle.grammar.specs.Parts.{Part}
@@ -77,16 +77,17 @@ reading =
       unit = record { blocks = blocks; rows = (code 8 1 7 ∷ code 9 1 6 ∷ code 10 1 13 ∷ []) ∷ (code 12 4 0xF5 ∷ []) ∷ [] };
     }
 
-abbrev number : ℤ → ℕ
-number (pos n) = n
-number (negsuc n) = 0
+-- a number, by its sign
+abbrev number : ℤ → List ℕ
+number (pos n) = 1 ∷ n ∷ []
+number (negsuc n) = 0 ∷ (n + 1) ∷ []
 
 abbrev lasting : Option ℕ → ℕ
 lasting none = 0
 lasting (some d) = d
 
 abbrev listing : Shown → List ℕ
-listing s = number (s .start) ∷ lasting (s .duration) ∷ s .start-delay ∷ s .stop-delay ∷ s .x1 ∷ s .y1 ∷ s .width ∷ s .height ∷ s .codes ∷ []
+listing s = number (s .start) ++ lasting (s .duration) ∷ s .start-delay ∷ s .stop-delay ∷ s .x1 ∷ s .y1 ∷ s .width ∷ s .height ∷ s .codes ∷ []
 
 -- selectors and alphas at a place of the display
 abbrev at : ℕ → ℕ → List ℕ
@@ -120,7 +121,7 @@ cards =
     ∷ card (lineBytes entries tells 1 2 (0 ∷ 0 ∷ [])) (20 ∷ 21 ∷ 22 ∷ 34 ∷ 30 ∷ 31 ∷ 32 ∷ 34 ∷ [])
     ∷ card (canvasBytes entries tells 1 2 ((0 ∷ 0 ∷ []) ∷ (0 ∷ 0 ∷ []) ∷ [])) (20 ∷ 21 ∷ 22 ∷ 34 ∷ 30 ∷ 31 ∷ 32 ∷ 34 ∷ 20 ∷ 21 ∷ 22 ∷ 51 ∷ 30 ∷ 31 ∷ 32 ∷ 51 ∷ [])
     -- what the reading gives
-    ∷ card (listing (shown reading)) (3000000 ∷ 4000000 ∷ 11 ∷ 13 ∷ 7 ∷ 5 ∷ 3 ∷ 2 ∷ 4 ∷ [])
+    ∷ card (listing (shown reading)) (1 ∷ 3000000 ∷ 4000000 ∷ 11 ∷ 13 ∷ 7 ∷ 5 ∷ 3 ∷ 2 ∷ 4 ∷ [])
     ∷ card (mapOf reading) (3 ∷ 2 ∷ 1 ∷ 1 ∷ 1 ∷ 1 ∷ [])
     ∷ card (wordsOf reading) (5 ∷ 5 ∷ 1 ∷ 8 ∷ 0x3012 ∷ 0x1230 ∷ 5 ∷ 9 ∷ 1 ∷ 9 ∷ 0x2222 ∷ 0x0700 ∷ [])
     ∷ card (canvasOf reading)

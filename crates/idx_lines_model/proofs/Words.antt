@@ -4,23 +4,21 @@ use borrow.Author.Tests.{eqb-true, eqb-false}
 use lib.Dec.{eqb}
 use Prim.Native.Nat.{ℕ, _+_, _-_, _≤_, _<_}
 use mathlib.Core.Path.{_≡_, refl, sym, ap, _∙_, ap₂}
-use mathlib.Core.Bool.{Bool, true, false, cond}
+use mathlib.Core.Bool.{Bool, true, false}
 use mathlib.Core.Option.{Option, some, none}
 use mathlib.Core.List.{List, [], _∷_, _++_}
 use native.Mathlib.Omega.{arith}
 use lib.ListN.{length, take, drop, length-drop, getD, take-append-drop}
-use lib.Seq.{take-all, sets, drop-cons}
+use lib.Seq.{take-all, drop-cons}
 use Rattle.outcome.specs.Outcome.{Res, ok, refuse}
-use Rattle.grammar.specs.IndexNumbers.{Valued}
 use Rattle.grammar.specs.Index.{Said, size, palette, timestamp, size-word, palette-word, timestamp-word, filepos-word}
 use Rattle.grammar.specs.IndexParts.{letter-x}
 use Rattle.grammar.specs.Parts.{Part}
 use Rattle.idx_numbers_model.specs.Parts.{part, strip, moved, after, found, starts, all}
-use Rattle.idx_lines_model.proofs.Grammar.{given, SaysThis, line-is}
+use Rattle.idx_lines_model.proofs.Grammar.{SaysThis, line-is}
 use Rattle.grammar.specs.IndexCues.{paletteFrom}
-use Rattle.outcome.proofs.Laws.{ok-injective}
 use Rattle.idx_lines_model.specs.Answers.{lean, lineSays, oneOf, paletteAfter, LineRead, TokensRead}
-use Rattle.idx_lines_model.specs.Lines.{halves, sizeOr, tokens, paletteAt, timestampAt, lineOf}
+use Rattle.idx_lines_model.specs.Lines.{halves, sizeOr, timestampAt, lineOf}
 use Rattle.idx_numbers_model.proofs.Grammar.{strip-on, strip-is, never}
 use Rattle.idx_numbers_model.proofs.Steps.{found-is, starts-yes, starts-no, small-bytes, word-front, word-whole}
 use Rattle.idx_lines_model.specs.declared.Line.{Line}

@@ -1,20 +1,19 @@
 -- What each case of the code's types stands for, and what reading a line leaves in the palette. Assumes nothing: these are definitions.
-use Prim.Native.Nat.{ℕ, zero, suc, _+_, _-_, _/_, _%_, _≤_, _<_}
+use Prim.Native.Nat.{ℕ, _+_, _-_, _/_, _%_, _≤_, _<_}
 use mathlib.Core.Path.{_≡_}
 use mathlib.Core.Bool.{Bool, true, false, cond}
 use mathlib.Core.Option.{Option, some, none}
-use mathlib.Core.List.{List, [], _∷_, _++_}
+use mathlib.Core.List.{List, [], _∷_}
 use lib.Dec.{leb}
 use lib.ListN.{length, getD, take, drop}
-use lib.Seq.{sets}
 use lib.IntN.{ℤ, pos}
 use Rattle.outcome.specs.Outcome.{Res, ok, refuse, check, need, andThen, mapRes, bad-time, long-time, bad-position}
 use Rattle.grammar.specs.Parts.{Part}
-use Rattle.grammar.specs.IndexParts.{parting, tokenByte, unlike, colon}
-use Rattle.grammar.specs.Index.{Said, size, palette, timestamp, palette-word, top-token, startOf}
+use Rattle.grammar.specs.IndexParts.{unlike, colon}
+use Rattle.grammar.specs.Index.{Said, size, palette, timestamp, startOf}
 use Rattle.grammar.specs.IndexCues.{some-token, paletteFrom}
-use Rattle.idx_numbers_model.specs.Parts.{part, front, rest, trimmed, split, starts}
-use Rattle.idx_numbers_model.specs.Numbers.{digits, signed, hex, positionOf}
+use Rattle.idx_numbers_model.specs.Parts.{part, front, trimmed, split}
+use Rattle.idx_numbers_model.specs.Numbers.{digits, signed, positionOf}
 use Rattle.idx_lines_model.specs.Lines.{paletteAt, fields, steps, firstOf, lastOf, isFilepos, isOther, partsAt, lineOf}
 use Rattle.idx_lines_model.specs.declared.Line.{Line}
 use Rattle.idx_lines_model.specs.declared.Line.the-variants as line

@@ -17,7 +17,6 @@ use Rattle.grammar.specs.Bytes.{byte, word}
 use Rattle.grammar.specs.Packets.{Packet, Part, keptBytes, joined, Packets, IsPack, IsPrivate, IsOther, IsPacket, Keeps, Form, bare, packets, IsForm, unitOf, scratchFor, subpicture}
 use Rattle.grammar.specs.Record.{told, width}
 use Rattle.grammar.specs.Picture.{ListedUnit}
-use Rattle.grammar.specs.Pixels.{codesIn}
 use Rattle.control_model.specs.Chain.{controlAt}
 use Rattle.control_model.specs.Answers.{spuOf}
 use Rattle.control_model.specs.declared.Spu.{Spu}

@@ -6,7 +6,6 @@ use mathlib.Core.List.{List}
 use lib.ListN.{length}
 use Rattle.outcome.specs.Outcome.{short-pixels, field-ran-out}
 use Rattle.grammar.specs.Rows.{Code, FieldRows}
-use Rattle.grammar.specs.Pixels.{codesIn}
 use Rattle.rle_model.specs.Field.{rowsFrom, paintField}
 use Rattle.rle_model.specs.declared.FieldAnswer.{FieldAnswer}
 use Rattle.rle_model.specs.declared.FieldAnswer.the-variants as field-answer

@@ -17,7 +17,6 @@ use Rattle.control_model.specs.Answers.{spuOf}
 use Rattle.spu_model.specs.Unit.{hasBottom, rowsAt, unitAt}
 use Rattle.spu_model.specs.Answers.{spuAnswer, unitMap}
 use Rattle.spu_model.specs.declared.SpuAnswer.the-variants as spu-answer
-use Rattle.rle_model.specs.Answers.{listedCounts}
 
 -- no bottom field at offset 0
 pub no-bottom : hasBottom 9 0 ≡ false

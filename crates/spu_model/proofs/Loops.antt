@@ -13,7 +13,7 @@ use Rattle.outcome.specs.Outcome.{Res, ok, refuse, IsOk, listed, mapRes, short-
 use Rattle.outcome.proofs.Laws.{ok-injective, and-true}
 use Rattle.grammar.specs.Rows.{Code}
 use Rattle.grammar.specs.Bands.{bandWords}
-use Rattle.grammar.specs.Pixels.{indexMap, codesIn}
+use Rattle.grammar.specs.Pixels.{indexMap}
 use Rattle.grammar.specs.Control.{Block, lengthWord, controlWord}
 use Rattle.grammar.specs.Record.{Offsets, Told, told, width, height}
 use Rattle.control_model.specs.Fold.{untold, tellChain}

@@ -6,7 +6,7 @@ use lib.ListN.{length}
 use lib.Seq.{sets}
 use Rattle.outcome.specs.Outcome.{Res, ok, refuse, listed}
 use Rattle.grammar.specs.Bands.{bandWords}
-use Rattle.grammar.specs.Pixels.{indexMap, codesIn}
+use Rattle.grammar.specs.Pixels.{indexMap}
 use Rattle.grammar.specs.Control.{lengthWord, controlWord}
 use Rattle.grammar.specs.Record.{Told, told, width, height}
 use Rattle.grammar.specs.Picture.{topEnd, ListedUnit}

@@ -5,7 +5,7 @@ use mathlib.Core.List.{List}
 use lib.ListN.{length}
 use lib.Seq.{sets}
 use Rattle.grammar.specs.Bands.{bandWords}
-use Rattle.grammar.specs.Pixels.{indexMap, codesIn}
+use Rattle.grammar.specs.Pixels.{indexMap}
 use Rattle.grammar.specs.Record.{told, width, height}
 use Rattle.grammar.specs.Picture.{ListedUnit, IsUnit}
 use Rattle.control_model.specs.Answers.{spuOf}

@@ -12,7 +12,6 @@ use Rattle.grammar.specs.IndexCues.{Cue, cuesOf, cueAt}
 use Rattle.grammar.specs.Packets.{Form, bare, packets, unitOf, subpicture}
 use Rattle.grammar.specs.Record.{told}
 use Rattle.grammar.specs.Picture.{ListedUnit}
-use Rattle.grammar.specs.Pixels.{codesIn}
 use Rattle.grammar.specs.Reading.{Wanted, Reading, startAt, shown, mapOf, wordsOf, unitCanvas, canvasOf}
 use Rattle.control_model.specs.Answers.{spuOf}
 use Rattle.idx_model.specs.Text.{textOf}

@@ -14,7 +14,7 @@ use Rattle.grammar.specs.Look.{Look}
 use Rattle.grammar.specs.Control.{Block}
 use Rattle.grammar.specs.Record.{Told, told, width, height}
 use Rattle.grammar.specs.Picture.{ListedUnit}
-use Rattle.grammar.specs.Pixels.{indexMap, codesIn}
+use Rattle.grammar.specs.Pixels.{indexMap}
 use Rattle.grammar.specs.Canvas.{ownLook, toldLook}
 use Rattle.grammar.specs.Reading.{unitCanvas}
 use Rattle.control_model.specs.Chain.{controlAt}
