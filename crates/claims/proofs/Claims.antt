@@ -43,7 +43,7 @@ use Rattle.spu_model.proofs.Claim as unit-proof
 use Rattle.demo_model.specs.declared.DemoAnswer.{DemoAnswer}
 use Rattle.demo_model.specs.Answers as demo
 use Rattle.demo_model.specs.Codes.{Mark, Proper, painted, runSize}
-use Rattle.demo_model.specs.Claim.{KeptIn}
+use Rattle.demo_model.specs.Claim.{RoundTrips}
 use Rattle.demo_model.proofs.Marks.{shortest}
 use Rattle.demo_model.proofs.Claim as demo-proof
 use Rattle.vobsub_model.specs.declared.CanvasAnswer.{CanvasAnswer}
@@ -105,7 +105,7 @@ one-text = text-unique
 
 -- The writer (`build_demo_spu`): for every picture that it accepts the grammar lists the unit with that width, height and map, and reading the
 -- unit gives them back.
-pub a-picture : (w h : ℕ) (px out : List ℕ) (r : DemoAnswer) (out′ : List ℕ) → demo.Written w h px out r out′ → KeptIn w h px r out′
+pub a-picture : (w h : ℕ) (px out : List ℕ) (r : DemoAnswer) (out′ : List ℕ) → demo.Written w h px out r out′ → RoundTrips w h px r out′
 a-picture = demo-proof.claim
 
 -- No code of fewer nibbles than the one that it writes for a run paints just that run, where more of the row is left.

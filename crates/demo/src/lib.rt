@@ -12,7 +12,7 @@ ghost use mathlib.Core.List.{List, [], _∷_, _++_};
 ghost use Prim.Native.Nat.{ℕ, _≤_, _<_, _-_, _+_, _*_, _%_};
 ghost use lib.ListN.{length, drop, set};
 ghost use lib.Seq.{sets};
-ghost use Rattle.demo_model.specs.Claim.{KeptIn};
+ghost use Rattle.demo_model.specs.Claim.{RoundTrips};
 ghost use Rattle.grammar.specs.Bytes.{byte};
 ghost use Rattle.grammar.specs.Picture.{evens};
 ghost use Rattle.demo_model.specs.Codes.{runSize, runMarks, lastMarks, digits, nibblesOf, evened, rowMarks, fieldNibbles, pictureRows, lead};
@@ -281,7 +281,7 @@ fn write_unit(indices: &[u8], width: usize, height: usize, out: &mut [u8]) -> De
 // Writes a picture as a unit into the front of the output, which is as found on a refusal.
 // Ruled out: a unit of another picture of that size; a byte stored before the unit is known to fit.
 pub fn build_demo_spu(width: usize, height: usize, indices: &[u8], out: &mut [u8]) -> DemoAnswer
-    ensures { λ r. ⌜ Written width height (now (indices .entry)) (now (out .entry)) r (now (out .exit)) × KeptIn width height (now (indices .entry)) r (now (out .exit)) ⌝ }
+    ensures { λ r. ⌜ Written width height (now (indices .entry)) (now (out .entry)) r (now (out .exit)) × RoundTrips width height (now (indices .entry)) r (now (out .exit)) ⌝ }
 {
     if !is_side(width) {
         return DemoAnswer::Refused(BAD_SIDE);

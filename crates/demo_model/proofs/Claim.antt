@@ -25,7 +25,7 @@ use Rattle.demo_model.specs.Codes.{lastMarks, marksIn, pictureRows}
 use Rattle.demo_model.specs.Unit.{topNibbles, unitOf, isSide, allColours, pictureOk, sizedUnit, demoAt}
 use Rattle.demo_model.specs.Answers.{Sound, demoGiven, Written}
 use Rattle.demo_model.specs.declared.DemoAnswer.{DemoAnswer}
-use Rattle.demo_model.specs.Claim.{writtenTold, Listed, ReadsBack, Kept, KeptIn}
+use Rattle.demo_model.specs.Claim.{writtenTold, Listed, ReadsBack, RoundTrip, RoundTrips}
 use Rattle.demo_model.proofs.Marks.{fill-closes}
 use Rattle.demo_model.proofs.Unit.{Back, back}
 use Rattle.demo_model.proofs.Whole.{demo-sound}
@@ -109,20 +109,20 @@ module _ (w h : ℕ) (px : List ℕ) (n : ℕ) (u : List ℕ) (e : demoAt w h px
         words = d .words ∙ ap (λ (q : Res ListedUnit). sets ws 0 (unitBands q)) g ∙ ap (λ (q : Told). sets ws 0 (bandWords (q .bands))) (b .tells);
       }
 
-  kept : Kept w h px u
-  kept = record { list = read .list; lists = lists; reads = reads }
+  round-trip : RoundTrip w h px u
+  round-trip = record { list = read .list; lists = lists; reads = reads }
 
 -- what the contract of `build_demo_spu` says beside its equation
-pub claim : (w h : ℕ) (px out : List ℕ) (r : DemoAnswer) (out′ : List ℕ) → Written w h px out r out′ → KeptIn w h px r out′
+pub claim : (w h : ℕ) (px out : List ℕ) (r : DemoAnswer) (out′ : List ℕ) → Written w h px out r out′ → RoundTrips w h px r out′
 claim w h px out r out′ d = go (demoAt w h px (length out)) refl (d .answer) (d .output)
   where
-    go : (x : Res (List ℕ)) → demoAt w h px (length out) ≡ x → r ≡ demoGiven x → out′ ≡ sets out 0 (listed x) → KeptIn w h px r out′
-    go (refuse n) q e g = subst (λ (a : DemoAnswer). KeptIn w h px a out′) (sym e) tt
+    go : (x : Res (List ℕ)) → demoAt w h px (length out) ≡ x → r ≡ demoGiven x → out′ ≡ sets out 0 (listed x) → RoundTrips w h px r out′
+    go (refuse n) q e g = subst (λ (a : DemoAnswer). RoundTrips w h px a out′) (sym e) tt
     go (ok u) q e g =
         let l : 0 + length u ≤ length out = room w h px (length out) u q in
         let f : take (length u) out′ ≡ u = ap (take (length u)) (g ∙ sets-eq u out 0 l) ∙ take-at u (drop (0 + length u) out) (length u) refl in
-        subst (λ (a : DemoAnswer). KeptIn w h px a out′) (sym e) (subst (Kept w h px) (sym f) (kept w h px (length out) u q))
+        subst (λ (a : DemoAnswer). RoundTrips w h px a out′) (sym e) (subst (RoundTrip w h px) (sym f) (round-trip w h px (length out) u q))
 
 -- the equation with the claim, as the contract has both
-pub claimed : {w h : ℕ} {px out : List ℕ} {r : DemoAnswer} {out′ : List ℕ} → Written w h px out r out′ → Written w h px out r out′ × KeptIn w h px r out′
+pub claimed : {w h : ℕ} {px out : List ℕ} {r : DemoAnswer} {out′ : List ℕ} → Written w h px out r out′ → Written w h px out r out′ × RoundTrips w h px r out′
 claimed {w} {h} {px} {out} {r} {out′} d = (d, claim w h px out r out′ d)

@@ -57,12 +57,12 @@ pub record ReadsBack (w h : ℕ) (px : List ℕ) (l : ListedUnit) (map ws : List
   pub words : ws′ ≡ ws
 
 -- the grammar lists the unit u as the picture, and reading it into any map that holds the picture gives it back
-pub record Kept (w h : ℕ) (px u : List ℕ) : Type 0 where
+pub record RoundTrip (w h : ℕ) (px u : List ℕ) : Type 0 where
   pub list : ListedUnit
   pub lists : Listed w h px u list
   pub reads : (map ws : List ℕ) → w * h ≤ length map → (r : SpuAnswer) (map′ ws′ : List ℕ) → Decoded u map ws r map′ ws′ → ReadsBack w h px list map ws r map′ ws′
 
 -- of every picture that is accepted, with the unit in the front of the output
-abbrev pub KeptIn : ℕ → ℕ → List ℕ → DemoAnswer → List ℕ → Type 0
-KeptIn w h px (demo-answer.Wrote n) out = Kept w h px (take n out)
-KeptIn w h px (demo-answer.Refused k) out = Unit {0}
+abbrev pub RoundTrips : ℕ → ℕ → List ℕ → DemoAnswer → List ℕ → Type 0
+RoundTrips w h px (demo-answer.Wrote n) out = RoundTrip w h px (take n out)
+RoundTrips w h px (demo-answer.Refused k) out = Unit {0}

@@ -3,13 +3,13 @@ use Prim.Native.Nat.{ℕ, _≤_, _<_, min}
 use mathlib.Core.Path.{_≡_}
 use mathlib.Core.Logic.{_↔_}
 use mathlib.Core.Option.{some}
-use mathlib.Core.List.{List}
+use mathlib.Core.List.{List, map}
 use lib.ListN.{length}
 use lib.Seq.{sets}
 use lib.IntN.{ℤ}
 use Rattle.grammar.specs.Index.{Said, IsText}
 use Rattle.grammar.specs.IndexCues.{Cue, cuesOf, cueAt, paletteOf, hasPalette, displaySize, durationOf}
-use Rattle.idx_model.specs.Answers.{startsOf, positionsOf, given, orZero}
+use Rattle.idx_model.specs.Answers.{given, orZero}
 use Rattle.idx_model.specs.declared.IdxAnswer.{IdxAnswer}
 use Rattle.idx_model.specs.declared.CueAnswer.{CueAnswer}
 
@@ -20,8 +20,8 @@ pub record Gives (ls : List Said) (starts : List ℤ) (positions : List ℕ) (r 
   pub coloured : r .«has_palette» ≡ hasPalette ls
   pub palette : r .palette ≡ paletteOf ls
   pub count : r .cues ≡ length (cuesOf ls)
-  pub starts-are : starts′ ≡ sets starts 0 (startsOf ls)
-  pub positions-are : positions′ ≡ sets positions 0 (positionsOf ls)
+  pub starts-are : starts′ ≡ sets starts 0 (map (λ (c : Cue). c .start) (cuesOf ls))
+  pub positions-are : positions′ ≡ sets positions 0 (map (λ (c : Cue). c .position) (cuesOf ls))
 
 -- accepted is a text exactly where the grammar lists its lines and both buffers have room for its cues; a refusal leaves them as found
 pub record IdxSays (text : List ℕ) (starts : List ℤ) (positions : List ℕ) (r : IdxAnswer) (starts′ : List ℤ) (positions′ : List ℕ) : Type 0 where

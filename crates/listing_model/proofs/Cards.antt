@@ -1,11 +1,12 @@
 -- Closed inputs on which each edit of this crate's definitions gives another value. Assumes nothing.
 use mathlib.Core.Path.{_≡_, refl}
-use mathlib.Core.Option.{none}
+use mathlib.Core.Option.{some, none}
 use mathlib.Core.List.{List, [], _∷_}
-use lib.IntN.{pos}
+use lib.IntN.{pos, negsuc}
 use Rattle.grammar.specs.Control.{start, stop, Block}
 use Rattle.grammar.specs.Record.{told, commandsOf, commandsIn, firstDelay, lastDelay, lastNumbers, stands, allBands}
 use Rattle.control_model.specs.Answers.{spuOf}
+use Rattle.listing_model.specs.Lines.{digitsIn, decimal, shownLine, refusedLine, cuesLine, indexLine, fileLine}
 use Rattle.listing_model.specs.Title.{shownAt}
 use Rattle.listing_model.specs.Answers.{recordShown}
 use Rattle.rle_model.specs.Answers.{nothing}
@@ -27,3 +28,19 @@ delays-listed = (refl, refl)
 pub delays-recorded : (recordShown (pos 0) none (spuOf (told blocks) nothing) .start-delay ≡ 7) × (recordShown (pos 0) none (spuOf (told blocks) nothing) .stop-delay ≡ 9)
 unfolding spuOf told commandsOf commandsIn firstDelay lastDelay lastNumbers stands allBands
 delays-recorded = (refl, refl)
+
+-- `1 -2 3 4 5 6 7 8 9 10`: the fields of a line in their order; and one of a cue without a duration
+pub cue-line :
+    (shownLine 1 (record { start = negsuc 1; duration = some 3; start-delay = 8; stop-delay = 9; x1 = 4; y1 = 5; width = 6; height = 7; codes = 10 }) ≡ 49 ∷ 32 ∷ 45 ∷ 50 ∷ 32 ∷ 51 ∷ 32 ∷ 52 ∷ 32 ∷ 53 ∷ 32 ∷ 54 ∷ 32 ∷ 55 ∷ 32 ∷ 56 ∷ 32 ∷ 57 ∷ 32 ∷ 49 ∷ 48 ∷ 10 ∷ [])
+    × (shownLine 0 (record { start = pos 12; duration = none; start-delay = 0; stop-delay = 0; x1 = 0; y1 = 0; width = 1; height = 1; codes = 1 }) ≡ 48 ∷ 32 ∷ 49 ∷ 50 ∷ 32 ∷ 45 ∷ 32 ∷ 48 ∷ 32 ∷ 48 ∷ 32 ∷ 49 ∷ 32 ∷ 49 ∷ 32 ∷ 48 ∷ 32 ∷ 48 ∷ 32 ∷ 49 ∷ 10 ∷ [])
+unfolding shownLine decimal digitsIn
+cue-line = (refl, refl)
+
+-- `1 refused 20`, `cues 2`, `index refused 3` and `file refused`
+pub other-lines :
+    (refusedLine 1 20 ≡ 49 ∷ 32 ∷ 114 ∷ 101 ∷ 102 ∷ 117 ∷ 115 ∷ 101 ∷ 100 ∷ 32 ∷ 50 ∷ 48 ∷ 10 ∷ [])
+    × (cuesLine 2 ≡ 99 ∷ 117 ∷ 101 ∷ 115 ∷ 32 ∷ 50 ∷ 10 ∷ [])
+    × (indexLine 3 ≡ 105 ∷ 110 ∷ 100 ∷ 101 ∷ 120 ∷ 32 ∷ 114 ∷ 101 ∷ 102 ∷ 117 ∷ 115 ∷ 101 ∷ 100 ∷ 32 ∷ 51 ∷ 10 ∷ [])
+    × (fileLine ≡ 102 ∷ 105 ∷ 108 ∷ 101 ∷ 32 ∷ 114 ∷ 101 ∷ 102 ∷ 117 ∷ 115 ∷ 101 ∷ 100 ∷ 10 ∷ [])
+unfolding refusedLine cuesLine indexLine fileLine decimal digitsIn
+other-lines = (refl, refl, refl, refl)

@@ -4,7 +4,7 @@ use native.Mathlib.Omega.{arith}
 use mathlib.Core.Path.{_≡_, refl, sym, ap, _∙_, subst}
 use mathlib.Core.List.{List}
 use lib.ListN.{length, take, drop}
-use lib.Seq.{sets, sets-eq, length-slice, take-at}
+use lib.Seq.{sets, sets-eq, length-slice, take-all, take-at}
 use lib.Dec.{leb}
 use borrow.Author.Tests.{leb-true, le-leb}
 use Rattle.outcome.specs.Outcome.{Res, ok, refuse, short-scratch}
@@ -17,6 +17,11 @@ use Rattle.ps_model.specs.Answers.{formGiven, formStored, unitGiven, uni
 use Rattle.ps_model.specs.Claim.{Holds, Says}
 use Rattle.ps_model.specs.declared.UnitAnswer.{UnitAnswer}
 use Rattle.ps_model.proofs.Grammar.{form-iff}
+
+-- what is stored is the unit, as far as its form asks for scratch
+pub form-stored : (m : Form) → formStored m ≡ take (scratchFor m) (unitOf m)
+form-stored (bare u) = refl
+form-stored (packets ps) = sym (take-all (length (unitOf (packets ps))) (unitOf (packets ps)) (omega arith))
 
 module _ (f : List ℕ) (p : ℕ) where
   -- a unit is found with n bytes of scratch exactly where it is found and they are enough
@@ -57,7 +62,7 @@ module _ (f : List ℕ) (p : ℕ) where
             room = x .1;
             answer = refl;
             unit = ap (λ (t : List ℕ). unitPart f t p (formGiven m)) g ∙ unit-there s m (y .1) (x .1);
-            stored = g;
+            stored = g ∙ ap (sets s 0) (form-stored m);
           }
 
       said : (m : Form) → Holds f p s s′ (formGiven m) m → Says f p s s′ (formGiven m)

@@ -2,10 +2,10 @@
 use Prim.Native.Nat.{ℕ, _≤_, _<_}
 use mathlib.Core.Path.{_≡_}
 use mathlib.Core.List.{List}
-use lib.ListN.{length}
+use lib.ListN.{length, take}
 use lib.Seq.{sets}
 use Rattle.grammar.specs.Packets.{Form, IsForm, unitOf, scratchFor, subpicture}
-use Rattle.ps_model.specs.Answers.{formGiven, formStored, unitPart}
+use Rattle.ps_model.specs.Answers.{formGiven, unitPart}
 use Rattle.ps_model.specs.declared.UnitAnswer.{UnitAnswer}
 use Rattle.ps_model.specs.declared.UnitAnswer.the-variants as unit-answer
 
@@ -16,7 +16,7 @@ pub record Holds (f : List ℕ) (p : ℕ) (s s′ : List ℕ) (r : UnitAnswer) (
   pub room : scratchFor m ≤ length s
   pub answer : r ≡ formGiven m
   pub unit : unitPart f s′ p r ≡ unitOf m
-  pub stored : s′ ≡ sets s 0 (formStored m)
+  pub stored : s′ ≡ sets s 0 (take (scratchFor m) (unitOf m))
 
 -- a unit is one that is listed, for which scratch is long enough; a refusal leaves scratch as found, and says that none such is listed
 abbrev pub Says : List ℕ → ℕ → List ℕ → List ℕ → UnitAnswer → Type 0

@@ -50,7 +50,7 @@ claim s w h start px r px′ d = ⊎-elim (λ l. go l (fieldAt s (length s) w (r
     go : w * h ≤ length px → (x : Res (List (List Code))) → fieldAt s (length s) w (rowsFrom start h) 0 ≡ x → Says s w h start px px′ r
     go l (ok rs) q =
         let i = field-iff s (length s) w (rowsFrom start h) 0 rs .0 q in
-        told (ok rs) (rw (le-leb (w * h) (length px) l, q)) (λ f. (rs, record { all = i .0; rows = i .1 }, l, counts-listed w rs, f))
+        told (ok rs) (rw (le-leb (w * h) (length px) l, q)) (λ f. (rs, record { all = i .0; rows = i .1 }, l, counts-codes w rs, f))
     go l (refuse n) q =
         told (refuse n) (rw (le-leb (w * h) (length px) l, q))
         (λ f. (

@@ -12,9 +12,10 @@ use Rattle.grammar.specs.Bands.{bandWords}
 use Rattle.grammar.specs.Record.{told, width, height}
 use Rattle.grammar.specs.Picture.{ListedUnit}
 use Rattle.control_model.specs.Chain.{controlAt}
-use Rattle.spu_model.specs.Unit.{rowsAt, listedUnit, unitAt, unitIn}
+use Rattle.control_model.specs.Answers.{spuOf}
+use Rattle.spu_model.specs.Unit.{rowsAt, listedUnit, countsOf, unitAt, unitIn}
 use Rattle.spu_model.specs.Answers.{spuAnswer, unitMap, unitBands, Decoded}
-use Rattle.spu_model.specs.Claim.{LongEnough, Says, Measures}
+use Rattle.spu_model.specs.Claim.{LongEnough, Recorded, Says, Measures}
 use Rattle.spu_model.specs.declared.SpuAnswer.{SpuAnswer}
 use Rattle.spu_model.proofs.Grammar.{unit-iff}
 
@@ -38,13 +39,36 @@ in-complete u n m l e h =
     let k : LongEnough (listedUnit bs (w .0)) n m = subst (λ (x : ListedUnit). LongEnough x n m) (sym (w .2)) h in
     rw (a .1, le-leb (width (told bs) * height (told bs)) n (k .0), le-leb (length (bandWords (told bs .bands))) m (k .1)) (a .2)
 
+-- the record of an answer is of what its unit lists
+recorded : (l : ListedUnit) → Recorded (told (l .blocks)) (l .rows) (spuOf (told (l .blocks)) (countsOf l))
+unfolding spuOf
+recorded l =
+    record {
+      x1 = refl;
+      y1 = refl;
+      x2 = refl;
+      y2 = refl;
+      selected = refl;
+      alpha = refl;
+      started = refl;
+      start-delay = refl;
+      stopped = refl;
+      stop-delay = refl;
+      forced = refl;
+      top = refl;
+      bottom = refl;
+      changed = refl;
+      band-words = refl;
+      codes = refl;
+    }
+
 pub claim : (u px ws : List ℕ) (r : SpuAnswer) (px′ ws′ : List ℕ) → Decoded u px ws r px′ ws′ → Says u px ws px′ ws′ r
 claim u px ws r px′ ws′ d = go (unitIn u (length px) (length ws)) refl (d .answer) (d .pixels) (d .words)
   where
     go : (x : Res ListedUnit) → unitIn u (length px) (length ws) ≡ x → r ≡ spuAnswer x → px′ ≡ sets px 0 (unitMap x) → ws′ ≡ sets ws 0 (unitBands x) → Says u px ws px′ ws′ r
     go (ok l) q e f g =
         let s = in-sound u (length px) (length ws) l q in
-        subst (Says u px ws px′ ws′) (sym e) (l, unit-iff u l .0 (s .0), s .1, refl, f, g)
+        subst (Says u px ws px′ ws′) (sym e) (l, unit-iff u l .0 (s .0), s .1, recorded l, f, g)
     go (refuse n) q e f g =
         subst (Says u px ws px′ ws′) (sym e) (f, g, λ l i h. ok-not-refuse (sym q ∙ in-complete u (length px) (length ws) l (unit-iff u l .1 i) h))
 
@@ -52,7 +76,7 @@ pub measures : (u : List ℕ) (r : SpuAnswer) → r ≡ spuAnswer (unitAt u) →
 measures u r d = go (unitAt u) refl d
   where
     go : (x : Res ListedUnit) → unitAt u ≡ x → r ≡ spuAnswer x → Measures u r
-    go (ok l) q e = subst (Measures u) (sym e) (l, unit-iff u l .0 q, refl)
+    go (ok l) q e = subst (Measures u) (sym e) (l, unit-iff u l .0 q, recorded l)
     go (refuse n) q e = subst (Measures u) (sym e) (λ l i. ok-not-refuse (sym q ∙ unit-iff u l .1 i))
 
 -- the equation with the claim, as the contract has both

@@ -28,7 +28,7 @@ use Rattle.idx_model.specs.declared.IdxAnswer.{IdxAnswer}
 use Rattle.idx_model.specs.declared.CueAnswer.{CueAnswer}
 use Rattle.demo_model.specs.Unit.{demoAt}
 use Rattle.demo_model.specs.Answers.{demoGiven}
-use Rattle.demo_model.specs.Claim.{Kept}
+use Rattle.demo_model.specs.Claim.{RoundTrip}
 use Rattle.demo_model.specs.declared.DemoAnswer.{DemoAnswer}
 use Rattle.demo_model.specs.declared.DemoAnswer.the-variants as demo-answer
 use Rattle.spu_model.specs.Unit.{unitIn}
@@ -138,7 +138,7 @@ pub record UnitWritten (w h : ℕ) (indices out : List ℕ) (before r : ℕ) (ou
   pub returned : Returned (demoAt w h indices (length out)) r
   pub long : after ≡ demoLength (demoGiven (demoAt w h indices (length out))) before
   pub stores : out′ ≡ sets out 0 (listed (demoAt w h indices (length out)))
-  pub kept : r ≡ 0 → Kept w h indices (take after out′)
+  pub round-trip : r ≡ 0 → RoundTrip w h indices (take after out′)
 
 -- and those and the palette where nothing is refused, or what was there
 abbrev pub idxRecord : IdxAnswer → List ℕ → List ℕ

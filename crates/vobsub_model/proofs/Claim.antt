@@ -25,7 +25,7 @@ use Rattle.idx_model.proofs.Grammar.{text-iff, text-unique}
 use Rattle.ps_model.specs.Unit.{unitAt}
 use Rattle.ps_model.specs.Answers.{formStored}
 use Rattle.ps_model.proofs.Grammar.{form-iff, form-unique}
-use Rattle.ps_model.proofs.Claim.{unit-sound, unit-complete}
+use Rattle.ps_model.proofs.Claim.{form-stored, unit-sound, unit-complete}
 use Rattle.spu_model.specs.Unit.{rowsAt, listedUnit}
 use Rattle.spu_model.specs.Unit as unit-of
 use Rattle.spu_model.proofs.Grammar.{unit-iff, unit-unique}
@@ -165,7 +165,7 @@ module _ (text file : List ℕ) (q : Wanted) where
           width = refl;
           height = refl;
           codes = refl;
-          in-scratch = d .in-scratch ∙ ap (λ (y : Res Found). sets (b .scratch) 0 (scratchOf y)) (a .1) ∙ ap (λ (y : Form). sets (b .scratch) 0 (formStored y)) f;
+          in-scratch = d .in-scratch ∙ ap (λ (y : Res Found). sets (b .scratch) 0 (scratchOf y)) (a .1) ∙ ap (λ (y : Form). sets (b .scratch) 0 (formStored y)) f ∙ ap (sets (b .scratch) 0) (form-stored (x .form));
           in-pixels = d .in-pixels ∙ ap (λ (y : Res Reading). sets (b .pixels) 0 (pixelsOf y)) e;
           in-words = d .in-words ∙ ap (λ (y : Res Reading). sets (b .words) 0 (bandsOf y)) e;
           in-canvas = d .in-canvas ∙ ap (λ (y : Res Reading). sets (b .canvas) 0 (paintedOf y)) e;

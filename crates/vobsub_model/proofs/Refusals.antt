@@ -76,6 +76,8 @@ pub canvas-orders :
     (canvasIn (unit (0x05 ∷ 0x00 ∷ 0x10 ∷ 0x00 ∷ 0x00 ∷ 0x00 ∷ 0x00 ∷ 0xFF ∷ [])) 1 0 0 ≡ refuse no-area)
     -- 22, and 24
     × (canvasIn (unit (0xFF ∷ [])) 0 0 0 ≡ refuse short-pixels)
+    -- 22, and 23
+    × (canvasIn (unit (0x07 ∷ 0x00 ∷ 0x06 ∷ 0x00 ∷ 0x03 ∷ 0x00 ∷ 0x04 ∷ 0xFF ∷ [])) 0 2 0 ≡ refuse short-pixels)
     -- 23, and 24
     × (canvasIn (unit (0x07 ∷ 0x00 ∷ 0x06 ∷ 0x00 ∷ 0x03 ∷ 0x00 ∷ 0x04 ∷ 0xFF ∷ [])) 1 2 0 ≡ refuse short-words)
     -- 24, and 25
@@ -83,4 +85,4 @@ pub canvas-orders :
     -- 24, and 26
     × (canvasIn (unit (0x06 ∷ 0x00 ∷ 0x05 ∷ 0x00 ∷ 0x00 ∷ 0xFF ∷ [])) 1 0 3 ≡ refuse short-canvas)
 unfolding canvasIn rowsAt listFrom listFuel word nibbles nibble entryWords bandWords bandsAt bandsOf entriesOf header entryOf held plainAt changeAt orderAt commandAt commandsAt blockAt blocksAt headFits chainAt controlAt told commandsOf commandsIn firstDelay lastDelay lastNumbers stands allBands
-canvas-orders = (refl, refl, refl, refl, refl)
+canvas-orders = (refl, refl, refl, refl, refl, refl)

@@ -3,11 +3,11 @@ use mathlib.Core.Path.{_≡_}
 use mathlib.Core.Logic.{_↔_}
 use mathlib.Core.List.{List}
 use Prim.Native.Nat.{ℕ, _*_}
-use lib.ListN.{length}
+use lib.ListN.{length, take}
 use lib.Seq.{sets}
+use Rattle.grammar.specs.Packets.{unitOf, scratchFor}
 use Rattle.grammar.specs.Reading.{Wanted, Reading, IsReading, shown, mapOf, wordsOf, canvasOf, LongEnough}
 use Rattle.idx_model.specs.Answers.{given, orZero}
-use Rattle.ps_model.specs.Answers.{formStored}
 use Rattle.vobsub_model.specs.Call.{Lent}
 use Rattle.vobsub_model.specs.declared.Shown.{Shown}
 use Rattle.vobsub_model.specs.declared.CanvasAnswer.{CanvasAnswer}
@@ -36,7 +36,7 @@ pub record Equal (x : Reading) (b : Lent) (r : CanvasAnswer) (b′ : Lent) : Typ
   pub width : says .width ≡ shown x .width
   pub height : says .height ≡ shown x .height
   pub codes : says .counts .codes ≡ shown x .codes
-  pub in-scratch : b′ .scratch ≡ sets (b .scratch) 0 (formStored (x .form))
+  pub in-scratch : b′ .scratch ≡ sets (b .scratch) 0 (take (scratchFor (x .form)) (unitOf (x .form)))
   pub in-pixels : b′ .pixels ≡ sets (b .pixels) 0 (mapOf x)
   pub in-words : b′ .words ≡ sets (b .words) 0 (wordsOf x)
   pub in-canvas : b′ .canvas ≡ sets (b .canvas) 0 (canvasOf x)

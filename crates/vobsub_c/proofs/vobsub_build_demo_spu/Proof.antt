@@ -6,7 +6,7 @@ use borrow.Author.Needs.{needs}
 use lib.ListN.{length, take}
 use Rattle.demo_model.specs.Unit.{demoAt}
 use Rattle.demo_model.specs.Answers.{demoGiven, Written}
-use Rattle.demo_model.specs.Claim.{Kept, KeptIn}
+use Rattle.demo_model.specs.Claim.{RoundTrip, RoundTrips}
 use Rattle.demo_model.specs.declared.DemoAnswer.the-variants as demo-answer
 use Rattle.demo_model.proofs.Refusals.{refused-not}
 use Rattle.demo_model.specs.declared.DemoAnswer.{DemoAnswer}
@@ -16,7 +16,7 @@ use Rattle.vobsub_c.proofs.vobsub_build_demo_spu.Statement.{statement}
 use Rattle.vobsub_c.proofs.vobsub_build_demo_spu.Tie as tie
 
 -- what is left where the layer's answer is known
-given : (w h : ℕ) (px o o′ : List ℕ) (n : ℕ) (a b : DemoAnswer) → a ≡ b → Written w h px o a o′ × KeptIn w h px a o′ → UnitWritten w h px o n (demoRefusal b) o′ (demoLength b n)
+given : (w h : ℕ) (px o o′ : List ℕ) (n : ℕ) (a b : DemoAnswer) → a ≡ b → Written w h px o a o′ × RoundTrips w h px a o′ → UnitWritten w h px o n (demoRefusal b) o′ (demoLength b n)
 given w h px o o′ n a b e q =
     let y = sym e ∙ q .0 .answer in
     record {
@@ -24,11 +24,11 @@ given w h px o o′ n a b e q =
       returned = demo-returned _ _ _ _ _ (ap demoRefusal y);
       long = ap (λ (o : DemoAnswer). demoLength o n) y;
       stores = q .0 .output;
-      kept = keeps b y (subst (λ (x : DemoAnswer). KeptIn w h px x o′) e (q .1));
+      round-trip = keeps b y (subst (λ (x : DemoAnswer). RoundTrips w h px x o′) e (q .1));
     }
   where
     -- a refusal's number is not 0
-    keeps : (b : DemoAnswer) → b ≡ demoGiven (demoAt w h px (length o)) → KeptIn w h px b o′ → demoRefusal b ≡ 0 → Kept w h px (take (demoLength b n) o′)
+    keeps : (b : DemoAnswer) → b ≡ demoGiven (demoAt w h px (length o)) → RoundTrips w h px b o′ → demoRefusal b ≡ 0 → RoundTrip w h px (take (demoLength b n) o′)
     keeps (demo-answer.Wrote k) y p z = p
     keeps (demo-answer.Refused k) y p z = absurd (refused-not w h px (length o) k y z)
 
