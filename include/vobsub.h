@@ -20,12 +20,13 @@ uint8_t vobsub_parse_chg_colcon_payload(const uint8_t *payload, size_t payload_l
                                         uint16_t *words, size_t words_len,
                                         size_t at, size_t *count);
 
-/* Finds the unit at position of file, which has file_len bytes; position may be any number. A unit that packets hold is joined in the front
-   of scratch, which has scratch_len bytes, and *joined is set to 1; a bare unit stays where it is, from file[position] on, and *joined is
-   set to 0. *length is set to the unit's length, which may be 0. length and joined are not null, and the four regions do not overlap. On a
-   refusal (12, 13, 14) scratch, *length and *joined are as they were, and after a unit scratch past its length is. */
+/* Finds the unit of a stream at position of file, which has file_len bytes; position and stream may be any numbers. Streams are numbered 0 to 31,
+   and of the packets those count whose body starts with 0x20 + stream; a bare unit is found for each of them. A unit that packets hold is joined
+   in the front of scratch, which has scratch_len bytes, and *joined is set to 1; a bare unit stays where it is, from file[position] on, and
+   *joined is set to 0. *length is set to the unit's length, which may be 0. length and joined are not null, and the four regions do not overlap.
+   On a refusal (32, which comes first, 12, 13, 14) scratch, *length and *joined are as they were, and after a unit scratch past its length is. */
 uint8_t vobsub_extract_spu(const uint8_t *file, size_t file_len,
-                           size_t position,
+                           size_t position, size_t stream,
                            uint8_t *scratch, size_t scratch_len,
                            size_t *length, uint8_t *joined);
 
@@ -122,16 +123,17 @@ enum vobsub_shown_number {
 };
 
 /* Paints one cue of a title: text has the text_len bytes of its .idx file, file the file_len bytes of its .sub file; cues are numbered from 0,
-   and cue may be any number. The canvas goes to the front of canvas, which has canvas_len bytes: red, green, blue and alpha of each pixel, row
-   after row. The picture as colour numbers goes to the front of pixels, which has pixels_len bytes; its bands go to the front of words, which
-   has words_len words; a unit that packets hold is joined in the front of scratch, which has scratch_len bytes. *start is set to the cue's start
-   in microseconds; numbers has VOBSUB_SHOWN_NUMBERS numbers, and gets those of the cue. start and numbers are not null, and the eight regions
-   do not overlap. Of canvas 4 * width * height bytes are written, of pixels width * height, of words and scratch as many as the bands and the
-   joined unit take. On a refusal (1 to 9, 11 to 26) all are as they were, but that after 15 to 26 a unit that packets hold is in the front of
-   scratch. A unit has 65535 bytes at most, a picture 4096 by 4096 pixels. It takes up to 262 KiB of stack. */
+   and cue may be any number; so may stream, and 0 to 31 are streams, as for vobsub_extract_spu. The canvas goes to the front of canvas, which has
+   canvas_len bytes: red, green, blue and alpha of each pixel, row after row. The picture as colour numbers goes to the front of pixels, which has
+   pixels_len bytes; its bands go to the front of words, which has words_len words; a unit that packets hold is joined in the front of scratch,
+   which has scratch_len bytes. *start is set to the cue's start in microseconds; numbers has VOBSUB_SHOWN_NUMBERS numbers, and gets those of the
+   cue. start and numbers are not null, and the eight regions do not overlap. Of canvas 4 * width * height bytes are written, of pixels width *
+   height, of words and scratch as many as the bands and the joined unit take. On a refusal (1 to 9, then 32, then 11 to 26) all are as they were,
+   but that after 15 to 26 a unit that packets hold is in the front of scratch. A unit has 65535 bytes at most, a picture 4096 by 4096
+   pixels. It takes up to 262 KiB of stack. */
 uint8_t vobsub_decode_cue(const uint8_t *text, size_t text_len,
                           const uint8_t *file, size_t file_len,
-                          size_t cue,
+                          size_t cue, size_t stream,
                           uint8_t *scratch, size_t scratch_len,
                           uint8_t *pixels, size_t pixels_len,
                           uint16_t *words, size_t words_len,

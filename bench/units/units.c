@@ -1,4 +1,4 @@
-/* Finds the units of titles, or times the joining of one. */
+/* Finds the units of titles, those of stream 0, or times the joining of one. */
 #define _POSIX_C_SOURCE 200809L
 #include <stdio.h>
 #include <stdlib.h>
@@ -7,7 +7,7 @@
 
 #include "vobsub.h"
 
-enum { UNIT = 65535, SECTOR = 2048, HEAD = 14 + 6 + 3 + 1, TURNS = 2000, RUNS = 7 };
+enum { STREAM = 0, UNIT = 65535, SECTOR = 2048, HEAD = 14 + 6 + 3 + 1, TURNS = 2000, RUNS = 7 };
 
 static uint8_t scratch[65536], copy[65536];
 
@@ -45,7 +45,7 @@ static int title(const char *folder)
     int bad = 0;
     while ((at = strstr(at, "filepos:")) != NULL) {
         size_t position = strtoull(at + 8, &at, 16);
-        uint8_t joined, refusal = vobsub_extract_spu(file, file_len, position, scratch, sizeof scratch, &length, &joined);
+        uint8_t joined, refusal = vobsub_extract_spu(file, file_len, position, STREAM, scratch, sizeof scratch, &length, &joined);
         const uint8_t *unit = refusal == 0 && joined ? scratch : file + position;
         if (refusal != 0)
             printf("cue %zu at %zX: refused %u\n", cues, position, refusal);
@@ -75,7 +75,7 @@ static size_t sectors(uint8_t *file)
     size_t done = 0, at = 0;
     while (done < UNIT) {
         size_t part = UNIT - done < SECTOR - HEAD ? UNIT - done : SECTOR - HEAD, i;
-        const uint8_t head[10] = {0, 0, 1, 0xBD, (uint8_t)((part + 4) / 256), (uint8_t)((part + 4) % 256), 0x80, 0, 0, 0x20};
+        const uint8_t head[10] = {0, 0, 1, 0xBD, (uint8_t)((part + 4) / 256), (uint8_t)((part + 4) % 256), 0x80, 0, 0, 0x20 + STREAM};
         memcpy(file + at, pack, sizeof pack);
         memcpy(file + at + sizeof pack, head, sizeof head);
         at += HEAD;
@@ -95,7 +95,7 @@ static void timed(void)
     for (run = 0; run < RUNS; run++) {
         double start = now(), middle, end;
         for (turn = 0; turn < TURNS; turn++)
-            if (vobsub_extract_spu(file, file_len, 0, scratch, sizeof scratch, &length, &joined) != 0 || length != UNIT)
+            if (vobsub_extract_spu(file, file_len, 0, STREAM, scratch, sizeof scratch, &length, &joined) != 0 || length != UNIT)
                 exit(1);
         middle = now();
         for (turn = 0; turn < TURNS; turn++) {

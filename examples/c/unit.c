@@ -1,41 +1,50 @@
-/* Lists the unit at a position of a file: its record, its bands and its picture.  unit [FILE POSITION]   (the position in hexadecimal)
-   Without words it lists a small unit of its own that stands in one packet, and paints the cue of a small title with that unit. */
+/* Lists the unit of a stream at a position of a file: its record, its bands and its picture.
+   unit [FILE POSITION [STREAM]]   (the position in hexadecimal; stream 0 where none is named)
+   Without words it lists the two languages of a small file of its own, and paints the cue of a small title in both. */
 #include <inttypes.h>
 #include <stdio.h>
 #include <stdlib.h>
-#include <string.h>
 
 #include "vobsub.h"
 
+/* two languages, each a unit of 33 bytes in two packets: stream 0 has the id 0x20 before its bytes, stream 1 has 0x21 */
 static const uint8_t own[] = {
-    0x00, 0x00, 0x01, 0xBD, 0x00, 0x25, 0x80, 0x00, 0x00, 0x20, 0x00, 0x21, 0x00, 0x09, 0x00, 0x01, 0x60, 0x00, 0x30, 0x00, 0x00, 0x00,
-    0x09, 0x03, 0x01, 0x32, 0x04, 0x0F, 0xFF, 0x05, 0x00, 0x00, 0x01, 0x00, 0x00, 0x01, 0x06, 0x00, 0x04, 0x00, 0x06, 0x01, 0xFF,
+    0x00, 0x00, 0x01, 0xBD, 0x00, 0x11, 0x80, 0x00, 0x00, 0x20,
+    0x00, 0x21, 0x00, 0x09, 0x00, 0x01, 0x60, 0x00, 0x30, 0x00, 0x00, 0x00, 0x09,
+    0x00, 0x00, 0x01, 0xBD, 0x00, 0x17, 0x80, 0x00, 0x00, 0x21,
+    0x00, 0x21, 0x00, 0x09, 0x70, 0x00, 0x20, 0x00, 0x01, 0x00, 0x00, 0x00, 0x09, 0x03, 0x01, 0x32, 0x04, 0x0F, 0xFF,
+    0x00, 0x00, 0x01, 0xBD, 0x00, 0x18, 0x80, 0x00, 0x00, 0x20,
+    0x03, 0x01, 0x32, 0x04, 0x0F, 0xFF, 0x05, 0x00, 0x00, 0x01, 0x00, 0x00, 0x01, 0x06, 0x00, 0x04, 0x00, 0x06, 0x01, 0xFF,
+    0x00, 0x00, 0x01, 0xBD, 0x00, 0x12, 0x80, 0x00, 0x00, 0x21,
+    0x05, 0x00, 0x00, 0x01, 0x00, 0x20, 0x03, 0x06, 0x00, 0x04, 0x00, 0x07, 0x01, 0xFF,
 };
 
-/* the index text of the title whose file is the packet above */
+/* the index text of the title whose file is the packets above */
 static const char index_text[] =
     "size: 720x576\n"
     "palette: 000000, ff0000, 00ff00, 0000ff\n"
     "timestamp: 00:00:01:000, filepos: 0\n";
 
-static uint8_t scratch[65535];
+/* as long as any unit, as large as any picture, and more words than a unit without overlapping blocks has */
+static uint8_t scratch[65535], pixels[4096 * 4096];
+static uint16_t bands[65536];
 
-/* The line of a cue of the small title, and its pixels as red, green, blue and alpha. */
-static int paint(size_t cue)
+/* The line of a cue of the small title in one stream, and its pixels as red, green, blue and alpha. */
+static void paint(size_t cue, size_t stream)
 {
-    uint8_t map[4], canvas[16], refusal;
-    uint16_t bands[1];
+    uint8_t canvas[16], refusal;
     uint64_t numbers[VOBSUB_SHOWN_NUMBERS];
     int64_t start;
     size_t i, x, y;
 
-    refusal = vobsub_decode_cue((const uint8_t *)index_text, sizeof index_text - 1, own, sizeof own, cue, scratch, sizeof scratch, map, sizeof map,
-                                bands, 0, canvas, sizeof canvas, &start, numbers);
+    refusal = vobsub_decode_cue((const uint8_t *)index_text, sizeof index_text - 1, own, sizeof own, cue, stream, scratch, sizeof scratch,
+                                pixels, sizeof pixels, bands, sizeof bands / sizeof bands[0], canvas, sizeof canvas, &start, numbers);
+    printf("stream %zu, cue %zu: ", stream, cue);
     if (refusal != 0) {
-        printf("%zu refused %u\n", cue, refusal);
-        return 1;
+        printf("refused %u\n", refusal);
+        return;
     }
-    printf("%zu %" PRId64 " ", cue, start);
+    printf("%" PRId64 " ", start);
     if (numbers[VOBSUB_SHOWN_HAS_DURATION])
         printf("%" PRIu64, numbers[VOBSUB_SHOWN_DURATION]);
     else
@@ -50,7 +59,6 @@ static int paint(size_t cue)
             putchar(x + 1 < numbers[VOBSUB_SHOWN_WIDTH] ? ' ' : '\n');
         }
     }
-    return 0;
 }
 
 static uint8_t *whole_file(const char *path, size_t *length)
@@ -74,24 +82,15 @@ static uint8_t *whole_file(const char *path, size_t *length)
     return bytes;
 }
 
-int main(int count, char **words)
+/* The unit of a stream at a position: 1 where it is refused. */
+static int list(const uint8_t *file, size_t file_len, size_t position, size_t stream)
 {
-    const uint8_t *file = own, *unit;
-    uint8_t *pixels, joined, refusal;
-    uint16_t *bands;
-    size_t file_len = sizeof own, position = 0, length, width, height, i, x, y, numbers[VOBSUB_NUMBERS];
-    /* as large as any unit's picture, and more words than a unit without overlapping blocks has */
-    const size_t pixels_len = (size_t)4096 * 4096, bands_len = 65536;
+    const uint8_t *unit;
+    uint8_t joined, refusal;
+    size_t length, width, height, i, x, y, numbers[VOBSUB_NUMBERS];
 
-    if (count == 3) {
-        file = whole_file(words[1], &file_len);
-        position = strtoull(words[2], NULL, 16);
-    } else if (count != 1) {
-        fprintf(stderr, "unit [FILE POSITION]\n");
-        return 2;
-    }
-
-    refusal = vobsub_extract_spu(file, file_len, position, scratch, sizeof scratch, &length, &joined);
+    refusal = vobsub_extract_spu(file, file_len, position, stream, scratch, sizeof scratch, &length, &joined);
+    printf("stream %zu: ", stream);
     if (refusal != 0) {
         printf("refused %u\n", refusal);
         return 1;
@@ -99,11 +98,7 @@ int main(int count, char **words)
     unit = joined ? scratch : file + position;
     printf("%zu bytes, %s\n", length, joined ? "joined from packets" : "bare");
 
-    pixels = malloc(pixels_len);
-    bands = malloc(bands_len * sizeof bands[0]);
-    if (pixels == NULL || bands == NULL)
-        return 2;
-    refusal = vobsub_parse_and_decode_spu(unit, length, pixels, pixels_len, bands, bands_len, numbers);
+    refusal = vobsub_parse_and_decode_spu(unit, length, pixels, sizeof pixels, bands, sizeof bands / sizeof bands[0], numbers);
     if (refusal != 0) {
         printf("refused %u\n", refusal);
         return 1;
@@ -126,10 +121,28 @@ int main(int count, char **words)
             putchar('\n');
         }
     }
-    if (count == 1) {
-        /* the title has one cue, so the next is refused */
-        paint(0);
-        paint(1);
+    return 0;
+}
+
+int main(int count, char **words)
+{
+    /* two that the file has, one that it has not, and a number above those of streams, which are 0 to 31 */
+    static const size_t streams[] = {0, 1, 2, 32};
+    size_t file_len, i;
+
+    if (count == 3 || count == 4) {
+        const uint8_t *file = whole_file(words[1], &file_len);
+        return list(file, file_len, strtoull(words[2], NULL, 16), count == 4 ? strtoull(words[3], NULL, 10) : 0);
     }
+    if (count != 1) {
+        fprintf(stderr, "unit [FILE POSITION [STREAM]]\n");
+        return 2;
+    }
+    for (i = 0; i < sizeof streams / sizeof streams[0]; i++)
+        list(own, sizeof own, 0, streams[i]);
+    for (i = 0; i < sizeof streams / sizeof streams[0]; i++)
+        paint(0, streams[i]);
+    /* the title has one cue, so the next is refused */
+    paint(1, 0);
     return 0;
 }

@@ -2,6 +2,7 @@
 use crate::random::Random;
 use crate::side::{Side, Spot};
 use crate::titles::{Title, titles};
+use crate::walk::{stream_at, walk};
 use std::panic::{AssertUnwindSafe, catch_unwind};
 
 // What both sides are asked: bytes, and up to four numbers whose meaning is the class's.
@@ -11,7 +12,7 @@ pub struct Request {
     pub n: [usize; 4],
 }
 
-// What real titles give: index texts, files cut from one cue to the next, and the units in them.
+// What real titles give: index texts, files cut from one cue to the next, and the units in them, of the first stream at each cue.
 pub struct World {
     pub texts: Vec<String>,
     pub files: Vec<Vec<u8>>,
@@ -26,8 +27,10 @@ impl World {
             for (i, &from) in positions.iter().enumerate() {
                 let to = positions.get(i + 1).copied().unwrap_or(file.len()).min(file.len());
                 if from < to {
-                    if let Spot::Unit { unit, .. } = (crate::original::adapter::SIDE.spot)(&file[from..to], 0) {
-                        world.files.push(file[from..to].to_vec());
+                    let part = &file[from..to];
+                    let alone = walk(part, 0, stream_at(part, 0)).copy(part);
+                    if let Spot::Unit { unit, .. } = (crate::original::adapter::SIDE.spot)(&alone, 0) {
+                        world.files.push(part.to_vec());
                         world.units.push(unit);
                     }
                 }
@@ -52,6 +55,10 @@ pub struct Outcome {
     pub both: bool,
     // A rule of docs/DIFFERENCES.md under which the original was not followed; what the rule says was checked instead.
     pub rule: Option<&'static str>,
+    // A rule under which the original was asked about other bytes than the port, and followed; `rule` may apply besides.
+    pub copied: Option<&'static str>,
+    // What the request is counted for, by the names in the class's `met`.
+    pub met: Vec<&'static str>,
     // Where the two differ.
     pub differs: Option<String>,
     // Where the original panicked: its words.
@@ -75,6 +82,8 @@ pub struct Class {
     pub compare: fn(&Side, &Request) -> Outcome,
     // Refusals that generated requests must meet 50 times at least.
     pub refusals: &'static [u8],
+    // What else they must meet, 300 times at least.
+    pub met: &'static [&'static str],
     // Whether a quarter of the generated requests must be accepted by both sides.
     pub accepted: bool,
     // What the number of generated requests is divided by: fewer of those that take long.

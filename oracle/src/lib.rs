@@ -6,6 +6,7 @@ pub mod port;
 pub mod random;
 pub mod side;
 pub mod titles;
+pub mod walk;
 
 use std::cell::Cell;
 

@@ -34,6 +34,9 @@ struct Tally {
     refusals: BTreeMap<u8, u64>,
     refusals_generated: BTreeMap<u8, u64>,
     rules: BTreeMap<&'static str, u64>,
+    by_two_rules: u64,
+    met: BTreeMap<&'static str, u64>,
+    met_generated: BTreeMap<&'static str, u64>,
     panics: BTreeMap<String, (u64, Request)>,
 }
 
@@ -46,8 +49,13 @@ impl Tally {
         if generated {
             *self.refusals_generated.entry(o.refusal).or_default() += 1;
         }
-        if let Some(rule) = o.rule {
+        for rule in o.rule.into_iter().chain(o.copied) {
             *self.rules.entry(rule).or_default() += 1;
+        }
+        self.by_two_rules += (o.rule.is_some() && o.copied.is_some()) as u64;
+        for &what in &o.met {
+            *self.met.entry(what).or_default() += 1;
+            *self.met_generated.entry(what).or_default() += generated as u64;
         }
         let what = differs(&o);
         if let Some(words) = o.panicked {
@@ -75,6 +83,12 @@ impl Tally {
         for (rule, count) in &self.rules {
             println!("    by rule, {count}: {rule}");
         }
+        if self.by_two_rules > 0 {
+            println!("    by rule in all, {}, as {} are under two", self.rules.values().sum::<u64>() - self.by_two_rules, self.by_two_rules);
+        }
+        for (what, count) in &self.met {
+            println!("    met {count} times: {what}");
+        }
         for (words, (count, q)) in &self.panics {
             println!("    the original panicked {count} times: {words}; smallest {:?} {}", q.n, hex(&q.bytes));
         }
@@ -84,6 +98,13 @@ impl Tally {
                 let met = self.refusals_generated.get(n).copied().unwrap_or(0);
                 if met < 50 {
                     println!("    THIN: refusal {n} was met {met} times");
+                    whole = false;
+                }
+            }
+            for what in class.met {
+                let met = self.met_generated.get(what).copied().unwrap_or(0);
+                if met < 300 {
+                    println!("    THIN: met {met} times in the generated: {what}");
                     whole = false;
                 }
             }
@@ -168,7 +189,7 @@ fn ask(words: &[String]) {
     std::panic::set_hook(Box::new(|_| {}));
     let o = (class.compare)(&oracle::original::adapter::SIDE, &q);
     println!("the port says {}; accepted by both: {}", o.refusal, o.both);
-    for (name, what) in [("rule", o.rule.map(String::from)), ("the original panicked", o.panicked), ("DIFFERS", o.differs)] {
+    for (name, what) in [("rule", o.rule.map(String::from)), ("rule", o.copied.map(String::from)), ("the original panicked", o.panicked), ("DIFFERS", o.differs)] {
         if let Some(what) = what {
             println!("{name}: {what}");
         }

@@ -25,7 +25,7 @@ pub const SHOWN_NUMBERS: usize = 9;
 
 unsafe extern "C" {
     fn vobsub_parse_pes_body(pes: *const u8, pes_len: usize, body: *mut usize) -> u8;
-    fn vobsub_extract_spu(file: *const u8, file_len: usize, position: usize, scratch: *mut u8, scratch_len: usize, length: *mut usize, joined: *mut u8) -> u8;
+    fn vobsub_extract_spu(file: *const u8, file_len: usize, position: usize, stream: usize, scratch: *mut u8, scratch_len: usize, length: *mut usize, joined: *mut u8) -> u8;
     fn vobsub_parse_chg_colcon_payload(payload: *const u8, payload_len: usize, words: *mut u16, words_len: usize, at: usize, count: *mut usize) -> u8;
     fn vobsub_decode_rle_field(field: *const u8, field_len: usize, width: usize, height: usize, start_row: usize, pixels: *mut u8, pixels_len: usize, codes: *mut usize) -> u8;
     fn vobsub_parse_and_decode_spu(unit: *const u8, unit_len: usize, pixels: *mut u8, pixels_len: usize, words: *mut u16, words_len: usize, numbers: *mut usize) -> u8;
@@ -37,6 +37,7 @@ unsafe extern "C" {
         file: *const u8,
         file_len: usize,
         cue: usize,
+        stream: usize,
         scratch: *mut u8,
         scratch_len: usize,
         pixels: *mut u8,
@@ -55,8 +56,8 @@ pub fn pes_body(pes: &[u8], body: &mut usize) -> u8 {
     unsafe { vobsub_parse_pes_body(pes.as_ptr(), pes.len(), body) }
 }
 
-pub fn extract_spu(file: &[u8], position: usize, scratch: &mut [u8], length: &mut usize, joined: &mut u8) -> u8 {
-    unsafe { vobsub_extract_spu(file.as_ptr(), file.len(), position, scratch.as_mut_ptr(), scratch.len(), length, joined) }
+pub fn extract_spu(file: &[u8], position: usize, stream: usize, scratch: &mut [u8], length: &mut usize, joined: &mut u8) -> u8 {
+    unsafe { vobsub_extract_spu(file.as_ptr(), file.len(), position, stream, scratch.as_mut_ptr(), scratch.len(), length, joined) }
 }
 
 pub fn bands(payload: &[u8], words: &mut [u16], at: usize, count: &mut usize) -> u8 {
@@ -91,7 +92,7 @@ pub struct Lent<'a> {
     pub canvas: &'a mut [u8],
 }
 
-pub fn decode_cue(text: &[u8], file: &[u8], cue: usize, lent: Lent, start: &mut i64, numbers: &mut [u64; SHOWN_NUMBERS]) -> u8 {
+pub fn decode_cue(text: &[u8], file: &[u8], cue: usize, stream: usize, lent: Lent, start: &mut i64, numbers: &mut [u64; SHOWN_NUMBERS]) -> u8 {
     let Lent { scratch, pixels, words, canvas } = lent;
     unsafe {
         vobsub_decode_cue(
@@ -100,6 +101,7 @@ pub fn decode_cue(text: &[u8], file: &[u8], cue: usize, lent: Lent, start: &mut 
             file.as_ptr(),
             file.len(),
             cue,
+            stream,
             scratch.as_mut_ptr(),
             scratch.len(),
             pixels.as_mut_ptr(),

@@ -6,7 +6,7 @@ use mathlib.Core.List.{List, [], _∷_}
 use lib.Dec.{leb, eqb}
 use lib.ListN.{length}
 use Rattle.outcome.proofs.Numbers.{in-table, check-numbered, andThen-numbered, only-numbered}
-use Rattle.outcome.specs.Outcome.{Res, ok, refuse, no-band-list, short-words, Numbered}
+use Rattle.outcome.specs.Outcome.{InTable, Res, ok, refuse, no-band-list, short-words, Numbered}
 use Rattle.outcome.proofs.Laws.{ok-not-refuse, refuse-injective}
 use Rattle.bands_model.specs.Bands.{push3, wordOf, header, entryOf, onHead, onEntry, bandsOf, entriesOf}
 use Rattle.bands_model.specs.Answers.{stored}
@@ -57,8 +57,8 @@ mutual
 pub stored-numbered : (s : List ℕ) (at : ℕ) (ws : List ℕ) → Numbered (stored s at ws)
 unfolding stored
 stored-numbered s at ws =
-    andThen-numbered (bandsOf s) _ (only-numbered no-band-list (in-table no-band-list refl) (bandsOf s) (bands-refuses s))
-    (λ v. check-numbered (leb (at + length v) (length ws)) short-words (ok v) (in-table short-words refl) tt)
+    andThen-numbered InTable (bandsOf s) _ (only-numbered InTable no-band-list (in-table no-band-list refl) (bandsOf s) (bands-refuses s))
+    (λ v. check-numbered InTable (leb (at + length v) (length ws)) short-words (ok v) (in-table short-words refl) tt)
 
 -- 19 before 23: a byte that is no list, from place 9 on of one word
 pub orders :

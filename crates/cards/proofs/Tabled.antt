@@ -15,6 +15,8 @@ use Rattle.grammar.specs.Picture.{topEnd}
 use Rattle.grammar.specs.Packets.{joined, unitOf}
 use Rattle.ps_model.specs.OnePacket.{leading, header1At, headerAt, bodyAt, keptAt, packAt, privateAt, kindAt, packetAt}
 use Rattle.ps_model.specs.Packets.{packetsAt, isBare, formAt}
+use Rattle.ps_model.specs.Unit.{streamUnit}
+use Rattle.ps_model.specs.Unit as ps-unit
 use Rattle.rle_model.specs.Codes.{codeFrom, codeAt, rowAt, fieldAt}
 use Rattle.rle_model.specs.Field.{rowsFrom, paintField, decoded}
 use Rattle.rle_model.specs.Answers.{rowCounts, fieldCounts}
@@ -53,11 +55,11 @@ abbrev wantOf : List Card → List (List ℕ)
 wantOf = map (λ (c : Card). c .want)
 
 bytes-hold : gotOf bytes ≡ wantOf bytes
-unfolding bytes code reader field fields unit found held unitFor written upper evens runs cut marksOf digits nibblesOf packed pictureRows fieldNibbles allColours pictureOk sizedUnit demoAt demo.unitOf position start numeral startOf all split unsigned signed bare text-lines.fields steps timeAt joined unitOf leading header1At headerAt bodyAt keptAt packAt privateAt kindAt packetAt packetsAt isBare formAt listFuel listFrom word nibble nibbles paints afterCodes align rowPixels codesIn indexMap topEnd codeFrom codeAt rowAt fieldAt rowsFrom paintField decoded rowCounts fieldCounts weave lowerAt fieldsAt plainAt changeAt orderAt commandAt commandsAt blockAt blocksAt headFits chainAt controlAt spuOf entryWords bandWords rowsAt unitAt told commandsOf commandsIn firstDelay lastDelay lastNumbers stands allBands
+unfolding bytes code reader field fields unit found held unitFor written upper evens runs cut marksOf digits nibblesOf packed pictureRows fieldNibbles allColours pictureOk sizedUnit demoAt demo.unitOf position start numeral startOf all split unsigned signed bare text-lines.fields steps timeAt joined unitOf leading header1At headerAt bodyAt keptAt packAt privateAt kindAt packetAt packetsAt isBare formAt ps-unit.unitAt streamUnit listFuel listFrom word nibble nibbles paints afterCodes align rowPixels codesIn indexMap topEnd codeFrom codeAt rowAt fieldAt rowsFrom paintField decoded rowCounts fieldCounts weave lowerAt fieldsAt plainAt changeAt orderAt commandAt commandsAt blockAt blocksAt headFits chainAt controlAt spuOf entryWords bandWords rowsAt unitAt told commandsOf commandsIn firstDelay lastDelay lastNumbers stands allBands
 bytes-hold = refl
 
 lines-hold : gotOf lines ≡ wantOf lines
-unfolding lines titleLines cueLines front rest shorn trim strip checked cuesOf cueAt durationOf firstOf lastOf partsAt text-lines.lineOf linesIn textIn digitsIn decimal shownLine refusedLine cuesLine fileLine unitFor shownFor code field fields unit found written upper evens runs cut marksOf digits nibblesOf packed pictureRows fieldNibbles allColours pictureOk sizedUnit demoAt demo.unitOf position start numeral startOf all split unsigned signed bare text-lines.fields steps timeAt joined unitOf leading header1At headerAt bodyAt keptAt packAt privateAt kindAt packetAt packetsAt isBare formAt listFuel listFrom word nibble nibbles paints afterCodes align rowPixels codesIn indexMap topEnd codeFrom codeAt rowAt fieldAt rowsFrom paintField decoded rowCounts fieldCounts weave lowerAt fieldsAt plainAt changeAt orderAt commandAt commandsAt blockAt blocksAt headFits chainAt controlAt spuOf entryWords bandWords rowsAt unitAt told commandsOf commandsIn firstDelay lastDelay lastNumbers stands allBands
+unfolding lines titleLines cueLines front rest shorn trim strip checked cuesOf cueAt durationOf firstOf lastOf partsAt text-lines.lineOf linesIn textIn digitsIn decimal shownLine refusedLine cuesLine fileLine unitFor shownFor code field fields unit found written upper evens runs cut marksOf digits nibblesOf packed pictureRows fieldNibbles allColours pictureOk sizedUnit demoAt demo.unitOf position start numeral startOf all split unsigned signed bare text-lines.fields steps timeAt joined unitOf leading header1At headerAt bodyAt keptAt packAt privateAt kindAt packetAt packetsAt isBare formAt ps-unit.unitAt streamUnit listFuel listFrom word nibble nibbles paints afterCodes align rowPixels codesIn indexMap topEnd codeFrom codeAt rowAt fieldAt rowsFrom paintField decoded rowCounts fieldCounts weave lowerAt fieldsAt plainAt changeAt orderAt commandAt commandsAt blockAt blocksAt headFits chainAt controlAt spuOf entryWords bandWords rowsAt unitAt told commandsOf commandsIn firstDelay lastDelay lastNumbers stands allBands
 lines-hold = refl
 
 -- a time at the end of its range, and one past it
@@ -71,15 +73,15 @@ leave-holds = refl
 
 -- the title of 2 by 2: its cues, and its line
 small-cues : cuesIn small-text ≡ ok (small-cue ∷ [])
-unfolding small-text front rest shorn trim strip checked cuesOf cueAt durationOf firstOf lastOf partsAt text-lines.lineOf linesIn textIn digitsIn decimal shownLine refusedLine cuesLine fileLine unitFor shownFor code field fields unit found written upper evens runs cut marksOf digits nibblesOf packed pictureRows fieldNibbles allColours pictureOk sizedUnit demoAt demo.unitOf position start numeral startOf all split unsigned signed bare text-lines.fields steps timeAt joined unitOf leading header1At headerAt bodyAt keptAt packAt privateAt kindAt packetAt packetsAt isBare formAt listFuel listFrom word nibble nibbles paints afterCodes align rowPixels codesIn indexMap topEnd codeFrom codeAt rowAt fieldAt rowsFrom paintField decoded rowCounts fieldCounts weave lowerAt fieldsAt plainAt changeAt orderAt commandAt commandsAt blockAt blocksAt headFits chainAt controlAt spuOf entryWords bandWords rowsAt unitAt told commandsOf commandsIn firstDelay lastDelay lastNumbers stands allBands
+unfolding small-text front rest shorn trim strip checked cuesOf cueAt durationOf firstOf lastOf partsAt text-lines.lineOf linesIn textIn digitsIn decimal shownLine refusedLine cuesLine fileLine unitFor shownFor code field fields unit found written upper evens runs cut marksOf digits nibblesOf packed pictureRows fieldNibbles allColours pictureOk sizedUnit demoAt demo.unitOf position start numeral startOf all split unsigned signed bare text-lines.fields steps timeAt joined unitOf leading header1At headerAt bodyAt keptAt packAt privateAt kindAt packetAt packetsAt isBare formAt ps-unit.unitAt streamUnit listFuel listFrom word nibble nibbles paints afterCodes align rowPixels codesIn indexMap topEnd codeFrom codeAt rowAt fieldAt rowsFrom paintField decoded rowCounts fieldCounts weave lowerAt fieldsAt plainAt changeAt orderAt commandAt commandsAt blockAt blocksAt headFits chainAt controlAt spuOf entryWords bandWords rowsAt unitAt told commandsOf commandsIn firstDelay lastDelay lastNumbers stands allBands
 small-cues = refl
 
 small-shows : shownFor (small-cue ∷ []) small-file 0 ≡ ok small-shown
-unfolding small-file front rest shorn trim strip checked cuesOf cueAt durationOf firstOf lastOf partsAt text-lines.lineOf linesIn textIn digitsIn decimal shownLine refusedLine cuesLine fileLine unitFor shownFor code field fields unit found written upper evens runs cut marksOf digits nibblesOf packed pictureRows fieldNibbles allColours pictureOk sizedUnit demoAt demo.unitOf position start numeral startOf all split unsigned signed bare text-lines.fields steps timeAt joined unitOf leading header1At headerAt bodyAt keptAt packAt privateAt kindAt packetAt packetsAt isBare formAt listFuel listFrom word nibble nibbles paints afterCodes align rowPixels codesIn indexMap topEnd codeFrom codeAt rowAt fieldAt rowsFrom paintField decoded rowCounts fieldCounts weave lowerAt fieldsAt plainAt changeAt orderAt commandAt commandsAt blockAt blocksAt headFits chainAt controlAt spuOf entryWords bandWords rowsAt unitAt told commandsOf commandsIn firstDelay lastDelay lastNumbers stands allBands
+unfolding small-file front rest shorn trim strip checked cuesOf cueAt durationOf firstOf lastOf partsAt text-lines.lineOf linesIn textIn digitsIn decimal shownLine refusedLine cuesLine fileLine unitFor shownFor code field fields unit found written upper evens runs cut marksOf digits nibblesOf packed pictureRows fieldNibbles allColours pictureOk sizedUnit demoAt demo.unitOf position start numeral startOf all split unsigned signed bare text-lines.fields steps timeAt joined unitOf leading header1At headerAt bodyAt keptAt packAt privateAt kindAt packetAt packetsAt isBare formAt ps-unit.unitAt streamUnit listFuel listFrom word nibble nibbles paints afterCodes align rowPixels codesIn indexMap topEnd codeFrom codeAt rowAt fieldAt rowsFrom paintField decoded rowCounts fieldCounts weave lowerAt fieldsAt plainAt changeAt orderAt commandAt commandsAt blockAt blocksAt headFits chainAt controlAt spuOf entryWords bandWords rowsAt unitAt told commandsOf commandsIn firstDelay lastDelay lastNumbers stands allBands
 small-shows = refl
 
 small-line : (cuesLine 1 ++ (shownLine 0 small-shown ++ [])) ≡ small-title .want
-unfolding small-title front rest shorn trim strip checked cuesOf cueAt durationOf firstOf lastOf partsAt text-lines.lineOf linesIn textIn digitsIn decimal shownLine refusedLine cuesLine fileLine unitFor shownFor code field fields unit found written upper evens runs cut marksOf digits nibblesOf packed pictureRows fieldNibbles allColours pictureOk sizedUnit demoAt demo.unitOf position start numeral startOf all split unsigned signed bare text-lines.fields steps timeAt joined unitOf leading header1At headerAt bodyAt keptAt packAt privateAt kindAt packetAt packetsAt isBare formAt listFuel listFrom word nibble nibbles paints afterCodes align rowPixels codesIn indexMap topEnd codeFrom codeAt rowAt fieldAt rowsFrom paintField decoded rowCounts fieldCounts weave lowerAt fieldsAt plainAt changeAt orderAt commandAt commandsAt blockAt blocksAt headFits chainAt controlAt spuOf entryWords bandWords rowsAt unitAt told commandsOf commandsIn firstDelay lastDelay lastNumbers stands allBands
+unfolding small-title front rest shorn trim strip checked cuesOf cueAt durationOf firstOf lastOf partsAt text-lines.lineOf linesIn textIn digitsIn decimal shownLine refusedLine cuesLine fileLine unitFor shownFor code field fields unit found written upper evens runs cut marksOf digits nibblesOf packed pictureRows fieldNibbles allColours pictureOk sizedUnit demoAt demo.unitOf position start numeral startOf all split unsigned signed bare text-lines.fields steps timeAt joined unitOf leading header1At headerAt bodyAt keptAt packAt privateAt kindAt packetAt packetsAt isBare formAt ps-unit.unitAt streamUnit listFuel listFrom word nibble nibbles paints afterCodes align rowPixels codesIn indexMap topEnd codeFrom codeAt rowAt fieldAt rowsFrom paintField decoded rowCounts fieldCounts weave lowerAt fieldsAt plainAt changeAt orderAt commandAt commandsAt blockAt blocksAt headFits chainAt controlAt spuOf entryWords bandWords rowsAt unitAt told commandsOf commandsIn firstDelay lastDelay lastNumbers stands allBands
 small-line = refl
 
 small-readable : readable true small-text small-file ≡ true
@@ -94,8 +96,8 @@ small-holds = rw (small-readable, small-cues, small-shows) small-line
 small-paints : small-painted .got ≡ small-painted .want
 unfolding small-painted cue small-text small-file wordsOf told commandsOf commandsIn firstDelay lastDelay lastNumbers stands allBands
 small-paints =
-    rw (reading-iff small-text small-file (wanted 0) (lent [] (replicate 4 9) [] (replicate 16 9)) readings.small .1
-    (readings.small-passes, record { for-unit = omega arith; for-map = omega arith; for-bands = omega (arith, ap length readings.small-words); for-canvas = omega arith }))
+    rw (reading-iff small-text small-file (wanted 0 0) (lent [] (replicate 4 9) [] (replicate 16 9)) readings.small .1
+    (readings.small-passes 0 (omega arith), record { for-unit = omega arith; for-map = omega arith; for-bands = omega (arith, ap length readings.small-words); for-canvas = omega arith }))
     (λ i. 0 ∷ shows (readings.small-shown i) ++ readings.small-canvas i)
 
 map-both : (f : Card → List ℕ) (a b : List Card) → map f (a ++ b) ≡ map f a ++ map f b

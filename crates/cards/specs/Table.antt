@@ -19,7 +19,7 @@ use Rattle.grammar.specs.Index.{Said, size, palette, timestamp, startOf}
 use Rattle.grammar.specs.Rows.{colour, paints}
 use Rattle.grammar.specs.Pixels.{codesIn, indexMap}
 use Rattle.grammar.specs.Control.{forced-start, stop, selectors, alphas, area, offsets, colours, Block}
-use Rattle.grammar.specs.Packets.{subpicture, unitOf}
+use Rattle.grammar.specs.Packets.{unitOf}
 use Rattle.grammar.specs.Record.{told, delayOf, width, height}
 use Rattle.rle_model.specs.Codes.{codeAt}
 use Rattle.rle_model.specs.Nibbles.{nibbleAt, nibbleAnswer, pastNibble, onByte}
@@ -30,7 +30,7 @@ use Rattle.rle_model.specs.Answers.{nothing, fieldCounts}
 use Rattle.control_model.specs.Chain.{command}
 use Rattle.control_model.specs.Answers.{spuOf}
 use Rattle.control_model.specs.declared.Spu.{Spu}
-use Rattle.ps_model.specs.Packets.{formAt}
+use Rattle.ps_model.specs.Unit.{streamUnit}
 use Rattle.spu_model.specs.Unit.{unitAt}
 use Rattle.vobsub_model.specs.Call.{Lent, lent, readingIn}
 use Rattle.listing_model.specs.Lines.{refusedLine}
@@ -81,9 +81,9 @@ unit u =
     width t ∷ height t ∷ t .selected ∷ t .alpha ∷ delayOf (t .starts) ∷ delayOf (t .stops) ∷ codesIn (l .rows) ∷ indexMap (width t) (l .rows))
     (unitAt u)
 
--- the unit at the front of the file f
-unfoldable pub found : List ℕ → List ℕ
-found f = outcome unitOf (formAt subpicture f 0)
+-- the unit of stream s at the front of the file f, with 65,535 bytes of scratch
+unfoldable pub found : ℕ → List ℕ → List ℕ
+found s f = outcome unitOf (streamUnit s f 0 65535)
 
 -- the number of codes of the unit at the front of the file f
 unfoldable pub held : List ℕ → List ℕ
@@ -157,7 +157,7 @@ abbrev pub shows : Shown → List ℕ
 shows s = whole (s .start) ++ lasting (s .duration) ++ s .start-delay ∷ s .stop-delay ∷ s .x1 ∷ s .y1 ∷ s .width ∷ s .height ∷ s .codes ∷ []
 
 unfoldable pub cue : List ℕ → List ℕ → Lent → List ℕ
-cue text file b = outcome (λ r. shows (shown r) ++ canvasOf r) (readingIn text file (wanted 0) b)
+cue text file b = outcome (λ r. shows (shown r) ++ canvasOf r) (readingIn text file (wanted 0 0) b)
 
 -- all that is written of the title with this index text and this file
 unfoldable pub title : List ℕ → List ℕ → List ℕ
@@ -213,15 +213,19 @@ bytes =
     (0x00 ∷ 0x21 ∷ 0x00 ∷ 0x09 ∷ 0x00 ∷ 0x01 ∷ 0x60 ∷ 0x00 ∷ 0x30 ∷ 0x00 ∷ 0x00 ∷ 0x00 ∷ 0x09 ∷ 0x03 ∷ 0x01 ∷ 0x32 ∷ 0x04 ∷ 0x0F ∷ 0xFF ∷ 0x05 ∷ 0x00 ∷ 0x00 ∷ 0x01 ∷ 0x00 ∷ 0x00
     ∷ 0x01 ∷ 0x06 ∷ 0x00 ∷ 0x04 ∷ 0x00 ∷ 0x06 ∷ 0x01 ∷ 0xFF ∷ []))
     (0 ∷ 2 ∷ 2 ∷ 0x0132 ∷ 0x0FFF ∷ 0 ∷ 0 ∷ 3 ∷ 1 ∷ 1 ∷ 2 ∷ 3 ∷ [])
-    -- a unit bare; one kept by a packet; a packet that keeps two bytes 0, and so an empty unit; no packet, and no file
-    ∷ card (found (0x00 ∷ 0x04 ∷ 0x00 ∷ 0x04 ∷ [])) (0 ∷ 0x00 ∷ 0x04 ∷ 0x00 ∷ 0x04 ∷ [])
-    ∷ card (found (0x00 ∷ 0x00 ∷ 0x01 ∷ 0xBD ∷ 0x00 ∷ 0x08 ∷ 0x80 ∷ 0x00 ∷ 0x00 ∷ 0x20 ∷ 0x00 ∷ 0x04 ∷ 0x00 ∷ 0x04 ∷ [])) (0 ∷ 0x00 ∷ 0x04 ∷ 0x00 ∷ 0x04 ∷ [])
-    ∷ card (found (0x00 ∷ 0x00 ∷ 0x01 ∷ 0xBD ∷ 0x00 ∷ 0x06 ∷ 0x80 ∷ 0x00 ∷ 0x00 ∷ 0x20 ∷ 0x00 ∷ 0x00 ∷ [])) (0 ∷ [])
-    ∷ card (found (0x00 ∷ 0x03 ∷ 0x00 ∷ 0x04 ∷ [])) (13 ∷ [])
+    -- a unit bare, for streams 0, 31 and 32; one kept by a packet, for the stream of its id and for another; a packet
+    -- that keeps two bytes 0, and so an empty unit; no packet, and no file
+    ∷ card (found 0 (0x00 ∷ 0x04 ∷ 0x00 ∷ 0x04 ∷ [])) (0 ∷ 0x00 ∷ 0x04 ∷ 0x00 ∷ 0x04 ∷ [])
+    ∷ card (found 31 (0x00 ∷ 0x04 ∷ 0x00 ∷ 0x04 ∷ [])) (0 ∷ 0x00 ∷ 0x04 ∷ 0x00 ∷ 0x04 ∷ [])
+    ∷ card (found 32 (0x00 ∷ 0x04 ∷ 0x00 ∷ 0x04 ∷ [])) (32 ∷ [])
+    ∷ card (found 0 (0x00 ∷ 0x00 ∷ 0x01 ∷ 0xBD ∷ 0x00 ∷ 0x08 ∷ 0x80 ∷ 0x00 ∷ 0x00 ∷ 0x20 ∷ 0x00 ∷ 0x04 ∷ 0x00 ∷ 0x04 ∷ [])) (0 ∷ 0x00 ∷ 0x04 ∷ 0x00 ∷ 0x04 ∷ [])
+    ∷ card (found 1 (0x00 ∷ 0x00 ∷ 0x01 ∷ 0xBD ∷ 0x00 ∷ 0x08 ∷ 0x80 ∷ 0x00 ∷ 0x00 ∷ 0x20 ∷ 0x00 ∷ 0x04 ∷ 0x00 ∷ 0x04 ∷ [])) (13 ∷ [])
+    ∷ card (found 0 (0x00 ∷ 0x00 ∷ 0x01 ∷ 0xBD ∷ 0x00 ∷ 0x06 ∷ 0x80 ∷ 0x00 ∷ 0x00 ∷ 0x20 ∷ 0x00 ∷ 0x00 ∷ [])) (0 ∷ [])
+    ∷ card (found 0 (0x00 ∷ 0x03 ∷ 0x00 ∷ 0x04 ∷ [])) (13 ∷ [])
     -- those two packets read on: one code of the kept unit, and 15 for the empty one
     ∷ card (held (0x00 ∷ 0x00 ∷ 0x01 ∷ 0xBD ∷ 0x00 ∷ 0x08 ∷ 0x80 ∷ 0x00 ∷ 0x00 ∷ 0x20 ∷ 0x00 ∷ 0x04 ∷ 0x00 ∷ 0x04 ∷ [])) (0 ∷ 1 ∷ [])
     ∷ card (held (0x00 ∷ 0x00 ∷ 0x01 ∷ 0xBD ∷ 0x00 ∷ 0x06 ∷ 0x80 ∷ 0x00 ∷ 0x00 ∷ 0x20 ∷ 0x00 ∷ 0x00 ∷ [])) (15 ∷ [])
-    ∷ card (found []) (12 ∷ [])
+    ∷ card (found 0 []) (12 ∷ [])
     -- each value of what was told in its field of the record
     ∷ card (fieldsOf (spuOf (told blocks) (record { codes = 13 }))) (1 ∷ 2 ∷ 3 ∷ 4 ∷ 11 ∷ 12 ∷ 1 ∷ 7 ∷ 1 ∷ 9 ∷ 1 ∷ 5 ∷ 6 ∷ 1 ∷ 3 ∷ 13 ∷ [])
     ∷ card (fieldsOf (spuOf (told []) nothing)) (replicate 16 0)

@@ -3,20 +3,23 @@
 use Prim.Native.Nat.{ℕ, _≤_, _<_}
 use mathlib.Core.Path.{_≡_}
 use mathlib.Core.Bool.{Bool}
-use mathlib.Core.List.{List}
+use mathlib.Core.List.{List, []}
 use lib.ListN.{length}
+use lib.Seq.{sets}
 use lib.IntN.{ℤ}
 use Rattle.grammar.specs.Bands.{Band, Bands}
 use Rattle.grammar.specs.Index.{Said, IsText}
 use Rattle.grammar.specs.IndexCues.{Cue}
-use Rattle.grammar.specs.Packets.{Form, IsForm}
+use Rattle.grammar.specs.Packets.{Packet, Form, IsForm, streamId}
 use Rattle.grammar.specs.Picture.{ListedUnit, IsUnit}
 use Rattle.grammar.specs.Reading.{Wanted}
+use Rattle.grammar.specs.Streams.{Walk, Alike}
 use Rattle.grammar.specs.Rows.{Code, FieldRows}
 use Rattle.grammar.proofs.Unique.{field-unique, bands-unique}
 use Rattle.grammar.proofs.UniqueControl.{unit-unique}
 use Rattle.grammar.proofs.UniqueIndex.{text-unique}
 use Rattle.grammar.proofs.UniquePackets.{form-unique}
+use Rattle.grammar.proofs.Streams.{walk-same}
 use Rattle.rle_model.specs.declared.FieldAnswer.{FieldAnswer}
 use Rattle.rle_model.specs.Answers as field
 use Rattle.rle_model.specs.Claim as field-claim
@@ -26,9 +29,10 @@ use Rattle.bands_model.specs.Answers.{Stored}
 use Rattle.bands_model.specs.Claim as bands-claim
 use Rattle.bands_model.proofs.Claim as bands-proof
 use Rattle.ps_model.specs.declared.UnitAnswer.{UnitAnswer}
-use Rattle.ps_model.specs.Answers.{Extracted}
+use Rattle.ps_model.specs.Answers.{Extracted, unitStored}
 use Rattle.ps_model.specs.Claim as ps-claim
 use Rattle.ps_model.proofs.Claim as ps-proof
+use Rattle.ps_model.proofs.Streams.{walk-there}
 use Rattle.idx_model.specs.declared.IdxAnswer.{IdxAnswer}
 use Rattle.idx_model.specs.declared.CueAnswer.{CueAnswer}
 use Rattle.idx_model.specs.Text.{textOf}
@@ -49,16 +53,37 @@ use Rattle.demo_model.proofs.Claim as demo-proof
 use Rattle.vobsub_model.specs.declared.CanvasAnswer.{CanvasAnswer}
 use Rattle.vobsub_model.specs.Call.{Lent}
 use Rattle.vobsub_model.specs.Answers.{CuePainted}
-use Rattle.vobsub_model.specs.Claim.{Exactly}
+use Rattle.vobsub_model.specs.Claim.{Exactly, Undisturbed}
 use Rattle.vobsub_model.proofs.Claim as vobsub-proof
-use Rattle.listing_model.specs.Title.{cueLine}
+use Rattle.vobsub_model.proofs.Streams as vobsub-streams
+use Rattle.listing_model.specs.Title.{formFor, cueLine}
 use Rattle.listing_model.specs.Answers as listing
 use Rattle.listing_model.proofs.Claim as listing-proof
 
--- Whole files (`decode_cue`): a canvas is given exactly where the files have a reading for the cue and the buffers are long enough, no files have
--- two readings for one cue, and times, origin, size, number of codes and every byte of the canvas are the reading's.
+-- Whole files (`decode_cue`): a canvas is given exactly where the files have a reading for the cue and the stream and
+-- the buffers are long enough, no files have two readings for one cue and stream, and times, origin, size, number of
+-- codes and every byte of the canvas are the reading's.
 pub whole-files : (text file : List ℕ) (q : Wanted) (b : Lent) (r : CanvasAnswer) (b′ : Lent) → CuePainted text file q b r b′ → Exactly text file q b r b′
 whole-files text file q b r b′ d = vobsub-proof.claim text file q b r b′ d
+
+-- Other streams (`decode_cue`, `extract_spu`, `cue_line`): a file that differs in packets of other streams alone, among
+-- those walked from the cue's position, gives the same readings, the same answer and the same buffers. Every place has
+-- a walk, so that this speaks of every file and position.
+pub other-streams : (text file : List ℕ) (q : Wanted) (b : Lent) (r : CanvasAnswer) (b′ : Lent) → CuePainted text file q b r b′ → Undisturbed text file q b r b′
+other-streams text file q b r b′ d = vobsub-streams.undisturbed text file q b r b′ d
+
+pub other-streams-unit : (f : List ℕ) (p n : ℕ) (s : List ℕ) (r : UnitAnswer) (s′ : List ℕ) → Extracted f p n s r s′ → ps-claim.Undisturbed f p n s r s′
+other-streams-unit f p n s r s′ d = ps-proof.undisturbed f p n s r s′ d
+
+pub other-streams-line : (cs : List Cue) (f : List ℕ) (n : ℕ) (l s : List ℕ) (r : ℕ) (l′ s′ : List ℕ) → listing.Written (cueLine cs f n) l r l′
+    → s′ ≡ sets s 0 (unitStored (formFor cs f n)) → listing.Undisturbed cs f n l s r l′ s′
+other-streams-line cs f n l s r l′ s′ d e = listing-proof.undisturbed cs f n l s r l′ s′ d e
+
+pub same-walk : (s : ℕ) (f g : List ℕ) (p : ℕ) (ps : List Packet) → Walk (streamId s) f p [] ps → Alike s f g ps → Walk (streamId s) g p [] ps
+same-walk = walk-same
+
+pub a-walk : (id : ℕ → Bool) (f : List ℕ) (p : ℕ) → (ps : List Packet) × Walk id f p [] ps
+a-walk = walk-there
 
 -- A unit (`parse_and_decode_spu`, `measure_spu`): a record is given exactly where the grammar lists the unit and map and words are long enough.
 pub a-unit : (u px ws : List ℕ) (r : SpuAnswer) (px′ ws′ : List ℕ) → unit.Decoded u px ws r px′ ws′ → unit-claim.Says u px ws px′ ws′ r
@@ -70,9 +95,10 @@ a-unit-measured u r d = unit-proof.measures u r d
 pub one-unit : (u : List ℕ) (a b : ListedUnit) → IsUnit u a → IsUnit u b → a ≡ b
 one-unit = unit-unique
 
--- A position (`extract_spu`): a unit is found exactly where the grammar lists one there, bare or in packets, and scratch is long enough.
-pub a-position : (f : List ℕ) (p : ℕ) (s : List ℕ) (r : UnitAnswer) (s′ : List ℕ) → Extracted f p s r s′ → ps-claim.Says f p s s′ r
-a-position f p s r s′ d = ps-proof.claim f p s r s′ d
+-- A position (`extract_spu`): a unit is found exactly where there is such a stream, the grammar lists a unit of it
+-- there, bare or in packets, and scratch is long enough.
+pub a-position : (f : List ℕ) (p n : ℕ) (s : List ℕ) (r : UnitAnswer) (s′ : List ℕ) → Extracted f p n s r s′ → ps-claim.Says f p n s s′ r
+a-position f p n s r s′ d = ps-proof.claim f p n s r s′ d
 
 pub one-position : (id : ℕ → Bool) (f : List ℕ) (p : ℕ) (a b : Form) → IsForm id f p a → IsForm id f p b → a ≡ b
 one-position = form-unique
@@ -112,6 +138,7 @@ a-picture = demo-proof.claim
 pub shortest-code : (left n : ℕ) (m : Mark) → 1 ≤ n → n ≤ 255 → n < left → Proper m → painted left m ≡ n → runSize n ≤ m .size
 shortest-code = shortest
 
--- A line of the list program (`cue_line`): it is not refused exactly where the files have a reading for the cue, and then has its values.
+-- A line of the list program (`cue_line`): it is not refused exactly where the files have a reading for the cue and
+-- stream 0, and then has its values.
 pub a-line : (cs : List Cue) (f : List ℕ) (n : ℕ) (l l′ : List ℕ) (r : ℕ) → listing.Written (cueLine cs f n) l r l′ → listing.Exactly cs f n l l′
 a-line cs f n l l′ r d = listing-proof.claim cs f n l l′ r d

@@ -7,7 +7,7 @@ use mathlib.Core.List.{List, [], _∷_}
 use lib.Dec.{leb, eqb}
 use lib.ListN.{length}
 use borrow.Author.Tests.{lt-leb}
-use Rattle.outcome.specs.Outcome.{Res, ok, Numbered, bad-side, not-all-indices, bad-index, long-unit, short-output, refuse}
+use Rattle.outcome.specs.Outcome.{InTable, Res, ok, Numbered, bad-side, not-all-indices, bad-index, long-unit, short-output, refuse}
 use Rattle.outcome.proofs.Numbers.{not-0, in-table, check-numbered, andThen-numbered}
 use Rattle.demo_model.specs.Codes.{lastMarks}
 use Rattle.demo_model.specs.Answers.{demoGiven}
@@ -17,12 +17,12 @@ use Rattle.demo_model.specs.Unit.{unitOf, isSide, allColours, pictureOk,
 pub demo-numbered : (w h : ℕ) (px : List ℕ) (n : ℕ) → Numbered (demoAt w h px n)
 unfolding demoAt pictureOk sizedUnit
 demo-numbered w h px n =
-    andThen-numbered (pictureOk w h px) _
-    (check-numbered (isSide w && isSide h) bad-side _ (in-table bad-side refl)
-    (check-numbered (eqb (length px) (w * h)) not-all-indices _ (in-table not-all-indices refl)
-    (check-numbered (allColours px) bad-index (ok tt) (in-table bad-index refl) tt)))
-    (λ t. check-numbered (leb (length (unitOf lastMarks w h px)) 65535) long-unit _ (in-table long-unit refl)
-    (check-numbered (leb (length (unitOf lastMarks w h px)) n) short-output (ok (unitOf lastMarks w h px)) (in-table short-output refl) tt))
+    andThen-numbered InTable (pictureOk w h px) _
+    (check-numbered InTable (isSide w && isSide h) bad-side _ (in-table bad-side refl)
+    (check-numbered InTable (eqb (length px) (w * h)) not-all-indices _ (in-table not-all-indices refl)
+    (check-numbered InTable (allColours px) bad-index (ok tt) (in-table bad-index refl) tt)))
+    (λ t. check-numbered InTable (leb (length (unitOf lastMarks w h px)) 65535) long-unit _ (in-table long-unit refl)
+    (check-numbered InTable (leb (length (unitOf lastMarks w h px)) n) short-output (ok (unitOf lastMarks w h px)) (in-table short-output refl) tt))
 
 -- so no picture is refused with 0
 pub refused-not : (w h : ℕ) (px : List ℕ) (n k : ℕ) → demo-answer.Refused k ≡ demoGiven (demoAt w h px n) → k ≡ 0 → ⊥

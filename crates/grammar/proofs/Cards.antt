@@ -13,7 +13,7 @@ use Rattle.grammar.specs.Pixels.{rowPixels, codesIn, indexMap}
 use Rattle.grammar.specs.Control.{Order, forced-start, start, stop, selectors, alphas, area, offsets, colours, Command, commandEnd, Block}
 use Rattle.grammar.specs.Record.{Told, told, delayOf, width, height, commandsOf, commandsIn, firstDelay, lastDelay, lastNumbers, stands, allBands}
 use Rattle.grammar.specs.Picture.{evens, odds, topEnd}
-use Rattle.grammar.specs.Packets.{Part, Packet, bufferSize, stampSize, subpicture, lengthEnd, joined, bare, packets, unitOf}
+use Rattle.grammar.specs.Packets.{Part, Packet, bufferSize, stampSize, streamId, lengthEnd, joined, bare, packets, unitOf}
 use Rattle.grammar.specs.Bands.{Entry, Band, entryWords, bandWords, bandEnd}
 use Rattle.grammar.specs.Look.{Look, rightmost, lastLook, lookAt}
 
@@ -127,10 +127,12 @@ cards =
     ∷ card (map (λ (c : Command). commandEnd c) (head (drop 1 blocks))) (25 ∷ 26 ∷ 29 ∷ 36 ∷ 41 ∷ 74 ∷ [])
     -- the bottom field follows, stands before the top field, starts past the control blocks, starts with the top field
     ∷ card (topEnd 30 (record { top = 4; bottom = 9 }) ∷ topEnd 30 (record { top = 9; bottom = 4 }) ∷ topEnd 30 (record { top = 4; bottom = 33 }) ∷ topEnd 30 (record { top = 9; bottom = 9 }) ∷ []) (9 ∷ 30 ∷ 30 ∷ 30 ∷ [])
-    -- buffer sizes and stamps of a packet's older header, by a byte on each side of each bound; subpicture ids
+    -- buffer sizes and stamps of a packet's older header, by a byte on each side of each bound; the ids of streams 0
+    -- and 31
     ∷ card (map bufferSize (0x3F ∷ 0x40 ∷ 0x7F ∷ 0x80 ∷ [])) (0 ∷ 2 ∷ 2 ∷ 0 ∷ [])
     ∷ card (map stampSize (0x0E ∷ 0x0F ∷ 0x10 ∷ 0x1F ∷ 0x20 ∷ 0x2F ∷ 0x30 ∷ 0x3F ∷ 0x40 ∷ [])) (0 ∷ 1 ∷ 0 ∷ 0 ∷ 5 ∷ 5 ∷ 10 ∷ 10 ∷ 0 ∷ [])
-    ∷ card (map (λ (x : ℕ). cond (subpicture x) 1 0) (0x1F ∷ 0x20 ∷ 0x3F ∷ 0x40 ∷ [])) (0 ∷ 1 ∷ 1 ∷ 0 ∷ [])
+    ∷ card (map (λ (x : ℕ). cond (streamId 0 x) 1 0) (0x1F ∷ 0x20 ∷ 0x21 ∷ 0x3E ∷ 0x3F ∷ 0x40 ∷ [])) (0 ∷ 1 ∷ 0 ∷ 0 ∷ 0 ∷ 0 ∷ [])
+    ∷ card (map (λ (x : ℕ). cond (streamId 31 x) 1 0) (0x1F ∷ 0x20 ∷ 0x21 ∷ 0x3E ∷ 0x3F ∷ 0x40 ∷ [])) (0 ∷ 0 ∷ 0 ∷ 0 ∷ 1 ∷ 0 ∷ [])
     ∷ card (lengthEnd (0 ∷ 0 ∷ 1 ∷ 0xBE ∷ 1 ∷ 2 ∷ []) 0 ∷ []) (264 ∷ [])
     -- a unit bare, and one of three bytes kept by two packets, with a byte more
     ∷ card (unitOf (bare (kept 7 (0 ∷ 4 ∷ 0 ∷ 4 ∷ [])))) (0 ∷ 4 ∷ 0 ∷ 4 ∷ [])

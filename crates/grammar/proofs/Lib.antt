@@ -3,6 +3,9 @@ pub mod Unique
 pub mod UniqueControl
 pub mod UniquePackets
 pub mod UniqueParts
+pub mod PacketParts
+pub mod Streams
+pub mod StreamCards
 pub mod UniqueIndex
 pub mod UniqueReading
 pub mod ReadingLine

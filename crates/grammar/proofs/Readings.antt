@@ -21,9 +21,9 @@ use Rattle.grammar.specs.Look.{rightmost, lastLook, lookAt}
 use Rattle.grammar.specs.Rows.{code, paints, RowCodes, afterCodes, align, FieldRows}
 use Rattle.grammar.specs.Pixels.{rowPixels, codesIn, indexMap}
 use Rattle.grammar.specs.Picture.{evens, topEnd, Stay0, IsPicture, ListedUnit}
-use Rattle.grammar.specs.Packets.{Packet, subpicture, joined, Packets, bare, packets, unitOf, IsForm}
+use Rattle.grammar.specs.Packets.{Packet, streamId, joined, Packets, bare, packets, unitOf, IsForm}
 use Rattle.grammar.specs.Canvas.{coloured, pixel, lineBytes, canvasBytes}
-use Rattle.grammar.specs.Reading.{Reading, IsReading, shown, mapOf, wordsOf, unitCanvas, canvasOf}
+use Rattle.grammar.specs.Reading.{wanted, Reading, IsReading, shown, mapOf, wordsOf, unitCanvas, canvasOf}
 use Rattle.grammar.proofs.UniqueParts.{head-same, tail-same}
 use Rattle.grammar.proofs.ReadingLine.{every, all-of, part, valued, line, said, says, trims}
 
@@ -123,18 +123,24 @@ small-picture =
       );
     }
 
-pub small-passes : IsReading line small-file (record { cue = 0 }) small
+-- a bare unit has no id: it is read for every stream
+pub small-passes : (s : ℕ) → s ≤ 31 → IsReading line small-file (wanted 0 s) small
 unfolding cuesOf cueAt startOf word unitOf
-small-passes =
+small-passes s h =
     record {
       text-is = small-text;
       cue-is = refl;
+      stream-is = omega arith;
       at = record { start = pos 1000000; position = 0 };
       listed = refl;
       before-end = omega arith;
       form-is = (record { four = omega arith; least = omega arith; fits = omega arith }, record { place-is = refl; bytes-are = refl });
       unit-is = record { chain = small-chain; picture = small-picture };
     }
+
+-- and for none above 31
+small-32 : (x : Reading) → IsReading line small-file (wanted 0 32) x → ⊥
+small-32 x h = omega (arith, h .stream-is)
 
 -- start 1000000, no duration, origin 0 0, 2 by 2, three codes, map 1 1 2 3, no words, and a canvas of black that is not transparent
 pub small-shown : shown small ≡ record { start = pos 1000000; duration = none; start-delay = 0; stop-delay = 0; x1 = 0; y1 = 0; width = 2; height = 2; codes = 3 }
@@ -264,7 +270,7 @@ packed-lines =
       );
     }
 
-packed-form : IsForm subpicture packed-file 0 (packets (packed-packet ∷ []))
+packed-form : IsForm (streamId 0) packed-file 0 (packets (packed-packet ∷ []))
 unfolding Packets word
 packed-form = (
   λ h. omega (arith, h .least),
@@ -370,12 +376,13 @@ packed-picture =
       bottom = inr (inl refl, tt);
     }
 
-pub packed-passes : IsReading packed-text packed-file (record { cue = 0 }) packed
+pub packed-passes : IsReading packed-text packed-file (wanted 0 0) packed
 unfolding cuesOf cueAt startOf word joined unitOf
 packed-passes =
     record {
       text-is = packed-lines;
       cue-is = refl;
+      stream-is = omega arith;
       at = record { start = pos 1000000; position = 0 };
       listed = refl;
       before-end = omega arith;

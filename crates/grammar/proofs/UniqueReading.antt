@@ -1,4 +1,4 @@
--- No two readings of the same files for one cue. Assumes nothing.
+-- No two readings of the same files for one cue and stream. Assumes nothing.
 use Prim.Native.Nat.{ℕ}
 use mathlib.Core.Path.{_≡_, sym, ap₂, _∙_}
 use mathlib.Core.Option.{some}

@@ -14,3 +14,4 @@ pub mod Index
 pub mod IndexCues
 pub mod Canvas
 pub mod Reading
+pub mod Streams

@@ -2,13 +2,13 @@
 -- find none. Fields have the names of ISO/IEC 13818-1 and 11172-1. Assumes nothing: these are definitions.
 use Prim.Native.Nat.{ℕ, _+_, _/_, _%_, _≤_, _<_}
 use mathlib.Core.Path.{_≡_}
-use mathlib.Core.Bool.{Bool, true, cond, _&&_}
+use mathlib.Core.Bool.{Bool, true, cond}
 use mathlib.Core.Logic.{_⊎_}
 use mathlib.Core.Option.{Option, some, none}
 use mathlib.Core.List.{List, [], _∷_, _++_}
 use lib.ListN.{length, take}
 use lib.Seq.{slice}
-use lib.Dec.{eqb, leb}
+use lib.Dec.{eqb}
 use Rattle.grammar.specs.Bytes.{byte, word}
 pub use Rattle.grammar.specs.Parts.{Part}
 
@@ -65,9 +65,16 @@ pub record IsBody (f : List ℕ) (a e b : ℕ) : Type 0 where
 
 -- ---- Packets
 
--- the ids of subpicture streams (FORMAT 2.6)
-abbrev pub subpicture : ℕ → Bool
-subpicture x = leb 0x20 x && leb x 0x3F
+-- the test for one id
+abbrev pub isId : ℕ → ℕ → Bool
+isId n x = eqb x n
+
+-- the greatest subpicture stream, and the test for the id of stream s (FORMAT 2.6)
+abbrev pub top-stream : ℕ
+top-stream = 31
+
+abbrev pub streamId : ℕ → ℕ → Bool
+streamId s = isId (0x20 + s)
 
 -- the place after a packet that has a PES_packet_length
 abbrev pub lengthEnd : List ℕ → ℕ → ℕ

@@ -1,4 +1,4 @@
--- A reading of index text and file for a cue, what makes it one, and what it gives (FORMAT 6.4 to 6.6).
+-- A reading of index text and file for a cue and a stream, what makes it one, and what it gives (FORMAT 6.4 to 6.6).
 -- It is found by nobody here: it passes or fails. Assumes nothing: these are definitions.
 use Prim.Native.Nat.{ℕ, _*_, _≤_, _<_}
 use mathlib.Core.Path.{_≡_}
@@ -9,23 +9,24 @@ use lib.ListN.{length}
 use lib.IntN.{ℤ, pos}
 use Rattle.grammar.specs.Index.{Said, IsText}
 use Rattle.grammar.specs.IndexCues.{Cue, cuesOf, cueAt, paletteOf, durationOf}
-use Rattle.grammar.specs.Packets.{Form, IsForm, unitOf, scratchFor, subpicture}
+use Rattle.grammar.specs.Packets.{Form, IsForm, unitOf, scratchFor, streamId, top-stream}
 use Rattle.grammar.specs.Bands.{bandWords}
 use Rattle.grammar.specs.Record.{Told, told, delayOf, width, height}
 use Rattle.grammar.specs.Picture.{ListedUnit, IsUnit}
 use Rattle.grammar.specs.Pixels.{rowPixels, indexMap, codesIn}
 use Rattle.grammar.specs.Canvas.{toldLook, canvasBytes}
 
--- what a caller asks for: the number of a cue
+-- what a caller asks for: the number of a cue, and that of a subpicture stream
 pub record Wanted : Type 0 where
   pub cue : ℕ
+  pub stream : ℕ
 
-abbrev pub wanted : ℕ → Wanted
-wanted n = record { cue = n }
+abbrev pub wanted : ℕ → ℕ → Wanted
+wanted n s = record { cue = n; stream = s }
 
--- the ids of the packets that keep anything (FORMAT 2.6)
+-- the id of the packets that keep anything (FORMAT 2.6)
 abbrev pub wantedId : Wanted → ℕ → Bool
-wantedId q = subpicture
+wantedId q = streamId (q .stream)
 
 -- every line that says something, which of their cues is read, how its unit stands in the file, and the unit's blocks and rows
 pub record Reading : Type 0 where
@@ -34,10 +35,11 @@ pub record Reading : Type 0 where
   pub form : Form
   pub unit : ListedUnit
 
--- r is a reading of these files for the cue that is asked for
+-- r is a reading of these files for the cue and the stream that are asked for
 pub record IsReading (text file : List ℕ) (q : Wanted) (r : Reading) : Type 0 where
   pub text-is : IsText text (r .lines)
   pub cue-is : r .cue ≡ q .cue
+  pub stream-is : q .stream ≤ top-stream
   pub at : Cue
   pub listed : cueAt (cuesOf (r .lines)) (r .cue) ≡ some at
   pub before-end : at .position < length file

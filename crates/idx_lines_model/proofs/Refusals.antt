@@ -1,8 +1,12 @@
 -- A line is refused with 2 to 9, in this order. Assumes nothing.
-use mathlib.Core.Path.{refl, _≡_}
+use Prim.Native.Nat.{ℕ}
+use mathlib.Core.Path.{_≡_, refl, sym, subst}
+use mathlib.Core.Bool.{true, false}
+use lib.Dec.{eqb}
 use mathlib.Core.Option.{Option, some, none}
+use Rattle.outcome.proofs.Laws.{clash}
 use Rattle.outcome.proofs.Numbers.{in-table, check-numbered, need-numbered, andThen-numbered}
-use Rattle.outcome.specs.Outcome.{need, bad-width, bad-height, bad-token, no-time, no-position, bad-time, long-time, bad-position, Numbered, refuse}
+use Rattle.outcome.specs.Outcome.{InTable, need, bad-width, bad-height, bad-token, no-time, no-position, bad-time, long-time, bad-position, no-cue, refusals, isOneOf, RefusedWith, refuse}
 use Rattle.grammar.specs.Parts.{Part}
 use Rattle.grammar.specs.IndexParts.{colon, letter-x}
 use Rattle.grammar.specs.Index.{size-word, palette-word, timestamp-word, filepos-word, top-side, startOf}
@@ -12,26 +16,34 @@ use Rattle.idx_lines_model.specs.Lines.{Two, halves, sizeOr, tokens, fie
 use mathlib.Core.List.{[], _∷_}
 use Rattle.grammar.specs.IndexNumbers.{numeral}
 
-pub line-numbered : (i : Part) → Numbered (lineOf i)
+-- a number of the table, and not that of a cue that is not there: texts are refused before a cue is asked for
+pub record TextNumber (n : ℕ) : Type 0 where
+  pub listed : InTable n
+  pub not-no-cue : n ≡ no-cue → ⊥
+
+pub text-number : (n : ℕ) → isOneOf n refusals ≡ true → eqb n no-cue ≡ false → TextNumber n
+text-number n h k = record { listed = in-table n h; not-no-cue = λ e. clash (eqb n no-cue) (subst (λ (m : ℕ). eqb m no-cue ≡ true) (sym e) refl) k }
+
+pub line-numbered : (i : Part) → RefusedWith TextNumber (lineOf i)
 unfolding lineOf
 line-numbered i = go (after size-word i) (after palette-word i) (after timestamp-word i)
   where
-    sides : (t : Option Two) → Numbered (sizeOr i t)
+    sides : (t : Option Two) → RefusedWith TextNumber (sizeOr i t)
     sides none = tt
     sides (some t) =
-        andThen-numbered (need bad-width (unsigned 10 top-side (trim (t .left) .bytes))) _ (need-numbered bad-width (unsigned 10 top-side (trim (t .left) .bytes)) (in-table bad-width refl))
-        (λ w. andThen-numbered (need bad-height (unsigned 10 top-side (trim (t .right) .bytes))) _ (need-numbered bad-height (unsigned 10 top-side (trim (t .right) .bytes)) (in-table bad-height refl)) (λ h. tt))
+        andThen-numbered TextNumber (need bad-width (unsigned 10 top-side (trim (t .left) .bytes))) _ (need-numbered TextNumber bad-width (unsigned 10 top-side (trim (t .left) .bytes)) (text-number bad-width refl refl))
+        (λ w. andThen-numbered TextNumber (need bad-height (unsigned 10 top-side (trim (t .right) .bytes))) _ (need-numbered TextNumber bad-height (unsigned 10 top-side (trim (t .right) .bytes)) (text-number bad-height refl refl)) (λ h. tt))
 
-    go : (a b c : Option Part) → Numbered (byWord i a b c)
+    go : (a b c : Option Part) → RefusedWith TextNumber (byWord i a b c)
     go (some r) b c = sides (halves letter-x r)
-    go none (some r) c = andThen-numbered (need bad-token (tokens 16 (r .place) (r .bytes))) _ (need-numbered bad-token (tokens 16 (r .place) (r .bytes)) (in-table bad-token refl)) (λ ts. tt)
+    go none (some r) c = andThen-numbered TextNumber (need bad-token (tokens 16 (r .place) (r .bytes))) _ (need-numbered TextNumber bad-token (tokens 16 (r .place) (r .bytes)) (text-number bad-token refl refl)) (λ ts. tt)
     go none none (some r) =
-        andThen-numbered (need no-time (firstOf isOther (partsAt (r .place) (r .bytes)))) _ (need-numbered no-time (firstOf isOther (partsAt (r .place) (r .bytes))) (in-table no-time refl))
-        (λ t. andThen-numbered (need no-position (lastOf isFilepos (partsAt (r .place) (r .bytes)))) _ (need-numbered no-position (lastOf isFilepos (partsAt (r .place) (r .bytes))) (in-table no-position refl))
-        (λ p. andThen-numbered (need bad-time (fields 4 (split colon (t .place) (t .bytes)))) _ (need-numbered bad-time (fields 4 (split colon (t .place) (t .bytes))) (in-table bad-time refl))
-        (λ fs. check-numbered (steps fs) long-time (positionAt i (partsAt (r .place) (r .bytes)) fs p) (in-table long-time refl)
-        (andThen-numbered (need bad-position (after filepos-word p)) _ (need-numbered bad-position (after filepos-word p) (in-table bad-position refl))
-        (λ x. andThen-numbered (need bad-position (positionOf (trim x .bytes))) _ (need-numbered bad-position (positionOf (trim x .bytes)) (in-table bad-position refl)) (λ v. tt))))))
+        andThen-numbered TextNumber (need no-time (firstOf isOther (partsAt (r .place) (r .bytes)))) _ (need-numbered TextNumber no-time (firstOf isOther (partsAt (r .place) (r .bytes))) (text-number no-time refl refl))
+        (λ t. andThen-numbered TextNumber (need no-position (lastOf isFilepos (partsAt (r .place) (r .bytes)))) _ (need-numbered TextNumber no-position (lastOf isFilepos (partsAt (r .place) (r .bytes))) (text-number no-position refl refl))
+        (λ p. andThen-numbered TextNumber (need bad-time (fields 4 (split colon (t .place) (t .bytes)))) _ (need-numbered TextNumber bad-time (fields 4 (split colon (t .place) (t .bytes))) (text-number bad-time refl refl))
+        (λ fs. check-numbered TextNumber (steps fs) long-time (positionAt i (partsAt (r .place) (r .bytes)) fs p) (text-number long-time refl refl)
+        (andThen-numbered TextNumber (need bad-position (after filepos-word p)) _ (need-numbered TextNumber bad-position (after filepos-word p) (text-number bad-position refl refl))
+        (λ x. andThen-numbered TextNumber (need bad-position (positionOf (trim x .bytes))) _ (need-numbered TextNumber bad-position (positionOf (trim x .bytes)) (text-number bad-position refl refl)) (λ v. tt))))))
     go none none none = tt
 
 -- each order of FORMAT 9 in a line: one on which both are true, and the number that is given

@@ -3,8 +3,8 @@ use Prim.Native.Nat.{ℕ, _+_}
 use mathlib.Core.Path.{_≡_, refl, subst}
 use mathlib.Core.Option.{Option, some, none}
 use mathlib.Core.List.{List, [], _∷_}
-use Rattle.outcome.proofs.Numbers.{in-table, check-numbered, need-numbered, andThen-numbered}
-use Rattle.outcome.specs.Outcome.{ok, refuse, need, high-byte, short-cues, no-cue, Numbered, bad-width, bad-token, bad-position}
+use Rattle.outcome.proofs.Numbers.{in-table, check-numbered, need-numbered, andThen-numbered, refused-also}
+use Rattle.outcome.specs.Outcome.{InTable, ok, refuse, need, high-byte, short-cues, no-cue, RefusedWith, Numbered, bad-width, bad-token, bad-position}
 use Rattle.grammar.specs.Parts.{Part}
 use Rattle.grammar.specs.IndexParts.{line-end}
 use Rattle.grammar.specs.IndexCues.{cuesOf, cueAt}
@@ -12,24 +12,31 @@ use Rattle.idx_numbers_model.specs.Parts.{all, trim, split, strip, front, rest,
 use Rattle.idx_lines_model.specs.Lines.{lineOf, tokens, partsAt, firstOf, lastOf, fields, steps}
 use Rattle.idx_model.specs.Text.{orNone, cuesIn, roomFor, linesIn, lowByte, textIn, textOf}
 use Rattle.idx_model.specs.Answers.{pickOf}
-use Rattle.idx_lines_model.proofs.Refusals.{line-numbered}
+use Rattle.idx_lines_model.proofs.Refusals.{TextNumber, text-number, line-numbered}
 use Rattle.outcome.proofs.Numbers.{not-0}
 use Rattle.grammar.specs.IndexNumbers.{numeral}
 use Rattle.grammar.specs.Index.{startOf}
 use Rattle.idx_numbers_model.specs.Numbers.{unsigned, signed, bare}
 
-lines-numbered : (room : Option ℕ) (ps : List Part) (k : ℕ) → Numbered (linesIn room k ps)
+lines-numbered : (room : Option ℕ) (ps : List Part) (k : ℕ) → RefusedWith TextNumber (linesIn room k ps)
 unfolding linesIn
 lines-numbered room [] k = tt
 lines-numbered room (p ∷ ps) k =
-    andThen-numbered (lineOf (trim p)) _ (line-numbered (trim p))
-    (λ o. check-numbered (roomFor room k o) short-cues _ (in-table short-cues refl)
-    (andThen-numbered (linesIn room (k + cuesIn o) ps) (λ ls. ok (orNone o ls)) (lines-numbered room ps (k + cuesIn o)) (λ ls. tt)))
+    andThen-numbered TextNumber (lineOf (trim p)) _ (line-numbered (trim p))
+    (λ o. check-numbered TextNumber (roomFor room k o) short-cues _ (text-number short-cues refl refl)
+    (andThen-numbered TextNumber (linesIn room (k + cuesIn o) ps) (λ ls. ok (orNone o ls)) (lines-numbered room ps (k + cuesIn o)) (λ ls. tt)))
+
+text-refused : (room : Option ℕ) (text : List ℕ) → RefusedWith TextNumber (textIn room text)
+unfolding textIn
+text-refused room text =
+    check-numbered TextNumber (all lowByte text) high-byte (linesIn room 0 (split line-end 0 text)) (text-number high-byte refl refl) (lines-numbered room (split line-end 0 text) 0)
 
 pub text-numbered : (room : Option ℕ) (text : List ℕ) → Numbered (textIn room text)
-unfolding textIn
-text-numbered room text =
-    check-numbered (all lowByte text) high-byte (linesIn room 0 (split line-end 0 text)) (in-table high-byte refl) (lines-numbered room (split line-end 0 text) 0)
+text-numbered room text = refused-also TextNumber InTable (λ n h. h .listed) (textIn room text) (text-refused room text)
+
+-- and never with 11
+pub text-not-11 : (room : Option ℕ) (text : List ℕ) (n : ℕ) → textIn room text ≡ refuse n → n ≡ no-cue → ⊥
+text-not-11 room text n e = subst (RefusedWith TextNumber) e (text-refused room text) .not-no-cue
 
 pub text-refuses : (room : Option ℕ) (text : List ℕ) (n : ℕ) → textIn room text ≡ refuse n → n ≡ 0 → ⊥
 text-refuses room text n e z = not-0 n (subst Numbered e (text-numbered room text)) z
@@ -37,8 +44,8 @@ text-refuses room text n e z = not-0 n (subst Numbered e (text-numbered room tex
 pub pick-numbered : (text : List ℕ) (n : ℕ) → Numbered (pickOf (textOf text) n)
 unfolding pickOf
 pick-numbered text n =
-    andThen-numbered (textOf text) _ (text-numbered none text)
-    (λ ls. andThen-numbered (need no-cue (cueAt (cuesOf ls) n)) _ (need-numbered no-cue (cueAt (cuesOf ls) n) (in-table no-cue refl)) (λ c. tt))
+    andThen-numbered InTable (textOf text) _ (text-numbered none text)
+    (λ ls. andThen-numbered InTable (need no-cue (cueAt (cuesOf ls) n)) _ (need-numbered InTable no-cue (cueAt (cuesOf ls) n) (in-table no-cue refl)) (λ c. tt))
 
 -- each order of FORMAT 9: a text and the room of the cue buffers on which both are true, and the number that is given
 pub orders :

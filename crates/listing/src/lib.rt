@@ -9,15 +9,18 @@ ghost use mathlib.Core.Path.{_≡_};
 ghost use Prim.Native.Nat.{_+_, _≤_, _<_};
 ghost use lib.ListN.{length};
 ghost use lib.Seq.{sets};
-ghost use Rattle.grammar.specs.Packets.{subpicture};
+ghost use Rattle.grammar.specs.Packets.{streamId};
 ghost use Rattle.ps_model.specs.Packets.{formAt};
 ghost use Rattle.ps_model.specs.Answers.{unitPart, unitStored};
 ghost use Rattle.listing_model.specs.Lines.{decimal, signed, lasting, field, newline, times, area, delays, shownLine, refusedLine, cuesLine, indexLine, fileLine};
-ghost use Rattle.listing_model.specs.Title.{formFor, cueLine};
-ghost use Rattle.listing_model.specs.Answers.{Put, Written, durationIs, recordShown, unitLine, positionLine, tableOf, Exactly, Headed};
+ghost use Rattle.listing_model.specs.Title.{list-stream, formFor, cueLine};
+ghost use Rattle.listing_model.specs.Answers.{Put, Written, durationIs, recordShown, unitLine, positionLine, tableOf, Exactly, Undisturbed, Headed};
 
 // The longest file that is read.
 const MOST: usize = 65536;
+
+// The stream whose units are listed.
+const STREAM: usize = 0;
 
 // The digits of n, the most significant first.
 fn put_decimal(n: u64, line: &mut [u8; 256], at: usize) -> usize
@@ -233,9 +236,9 @@ fn put_cue(
     line: &mut [u8; 256],
 ) -> usize
     ensures { λ r. ⌜ (Put 210 (now (line .entry)) 0 (positionLine n start (durationIs lasts duration) (now (file .entry)) position) r (now (line .exit)))
-        × (now (scratch .exit) ≡ sets (now (scratch .entry)) 0 (unitStored (formAt subpicture (now (file .entry)) position))) ⌝ }
+        × (now (scratch .exit) ≡ sets (now (scratch .entry)) 0 (unitStored (formAt (streamId list-stream) (now (file .entry)) position))) ⌝ }
 {
-    match ps::extract_spu(file, position as usize, scratch) {
+    match ps::extract_spu(file, position as usize, STREAM, scratch) {
         UnitAnswer::Bare(k) => put_found(
             file,
             &scratch[..],
@@ -264,7 +267,8 @@ fn put_cue(
 
 // The line of cue n, of the first `cues` that the two buffers hold, and its length. A unit that packets hold is joined in the front of
 // scratch.
-// Ruled out: a cue's line with the times of another; a line that is refused where the files have a reading for the cue.
+// Ruled out: a cue's line with the times of another; a line that is refused where the files have a reading for the cue
+// and stream 0.
 pub fn cue_line(
     file: &[u8],
     starts: &[i64],
@@ -276,7 +280,8 @@ pub fn cue_line(
 ) -> usize
     ensures { λ r. ⌜ Written (cueLine (tableOf (now (starts .entry)) (now (positions .entry)) cues) (now (file .entry)) n) (now (line .entry)) r (now (line .exit))
         × Exactly (tableOf (now (starts .entry)) (now (positions .entry)) cues) (now (file .entry)) n (now (line .entry)) (now (line .exit))
-        × (now (scratch .exit) ≡ sets (now (scratch .entry)) 0 (unitStored (formFor (tableOf (now (starts .entry)) (now (positions .entry)) cues) (now (file .entry)) n))) ⌝ }
+        × (now (scratch .exit) ≡ sets (now (scratch .entry)) 0 (unitStored (formFor (tableOf (now (starts .entry)) (now (positions .entry)) cues) (now (file .entry)) n)))
+        × Undisturbed (tableOf (now (starts .entry)) (now (positions .entry)) cues) (now (file .entry)) n (now (line .entry)) (now (scratch .entry)) r (now (line .exit)) (now (scratch .exit)) ⌝ }
 {
     let size = lesser(cues, lesser(starts.len(), positions.len()));
     if size <= n {

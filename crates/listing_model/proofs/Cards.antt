@@ -1,13 +1,20 @@
 -- Closed inputs on which each edit of this crate's definitions gives another value. Assumes nothing.
+use Prim.Native.Nat.{ℕ}
 use mathlib.Core.Path.{_≡_, refl}
 use mathlib.Core.Option.{some, none}
 use mathlib.Core.List.{List, [], _∷_}
 use lib.IntN.{pos, negsuc}
+use Rattle.outcome.specs.Outcome.{refusalOf, no-unit}
+use Rattle.outcome.specs.Lists.{listFuel, listFrom}
+use Rattle.grammar.specs.Bytes.{word}
+use Rattle.grammar.specs.IndexCues.{Cue, cueAt}
 use Rattle.grammar.specs.Control.{start, stop, Block}
 use Rattle.grammar.specs.Record.{told, commandsOf, commandsIn, firstDelay, lastDelay, lastNumbers, stands, allBands}
+use Rattle.ps_model.specs.OnePacket.{packetAt, kindAt, privateAt, packAt, keptAt, bodyAt, headerAt, header1At, leading}
+use Rattle.ps_model.specs.Packets.{packetsAt, isBare, formAt}
 use Rattle.control_model.specs.Answers.{spuOf}
 use Rattle.listing_model.specs.Lines.{digitsIn, decimal, shownLine, refusedLine, cuesLine, indexLine, fileLine}
-use Rattle.listing_model.specs.Title.{shownAt}
+use Rattle.listing_model.specs.Title.{shownAt, formFor}
 use Rattle.listing_model.specs.Answers.{recordShown}
 use Rattle.rle_model.specs.Answers.{nothing}
 
@@ -44,3 +51,14 @@ pub other-lines :
     × (fileLine ≡ 102 ∷ 105 ∷ 108 ∷ 101 ∷ 32 ∷ 114 ∷ 101 ∷ 102 ∷ 117 ∷ 115 ∷ 101 ∷ 100 ∷ 10 ∷ [])
 unfolding refusedLine cuesLine indexLine fileLine decimal digitsIn
 other-lines = (refl, refl, refl, refl)
+
+-- a unit of stream 0 is listed, and one of stream 1 is not
+abbrev under : ℕ → List ℕ
+under x = 0x00 ∷ 0x00 ∷ 0x01 ∷ 0xBD ∷ 0x00 ∷ 0x06 ∷ 0x80 ∷ 0x00 ∷ 0x00 ∷ x ∷ 0x00 ∷ 0x02 ∷ []
+
+abbrev cue : Cue
+cue = record { start = pos 0; position = 0 }
+
+pub stream-listed : (refusalOf (formFor (cue ∷ []) (under 0x20) 0) ≡ 0) × (refusalOf (formFor (cue ∷ []) (under 0x21) 0) ≡ no-unit)
+unfolding formFor cueAt formAt isBare packetsAt packetAt kindAt privateAt packAt keptAt bodyAt headerAt header1At leading listFrom listFuel word
+stream-listed = (refl, refl)

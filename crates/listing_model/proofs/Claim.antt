@@ -1,35 +1,42 @@
--- A cue's line has the values of the grammar's reading for the cue, and is refused where there is none. Assumes nothing.
+-- A cue's line has the values of the grammar's reading for the cue and stream 0, and is refused where there is none.
+-- Assumes nothing.
 use Prim.Native.Nat.{ℕ, _≤_}
+use native.Mathlib.Omega.{arith}
 use mathlib.Core.Path.{_≡_, refl, sym, ap, _∙_, subst}
 use mathlib.Core.Option.{some}
 use mathlib.Core.List.{List}
+use lib.ListN.{length}
 use lib.Seq.{sets}
-use Rattle.outcome.specs.Outcome.{Res, ok, refuse, IsOk, need, no-cue}
+use Rattle.outcome.specs.Outcome.{Res, ok, refuse, IsOk, need, andThen, mapRes, no-cue}
 use Rattle.outcome.proofs.Laws.{andThen-ok, mapRes-ok, need-some}
 use Rattle.grammar.specs.Index.{Said, IsText}
 use Rattle.grammar.specs.IndexCues.{Cue, cuesOf, cueAt, durationOf}
-use Rattle.grammar.specs.Packets.{unitOf, subpicture}
+use Rattle.grammar.specs.Packets.{Form, unitOf, streamId}
+use Rattle.grammar.proofs.Streams.{readings-same}
 use Rattle.grammar.specs.Record.{told, delayOf, width, height}
 use Rattle.grammar.specs.Pixels.{codesIn}
 use Rattle.grammar.specs.Reading.{wanted, Reading, IsReading, Shown, startAt, shown}
 use Rattle.idx_model.proofs.Grammar.{text-unique}
 use Rattle.ps_model.specs.Packets.{formAt}
+use Rattle.ps_model.specs.Answers.{unitStored}
 use Rattle.ps_model.proofs.Grammar.{form-iff}
+use Rattle.ps_model.proofs.Streams.{form-same}
+use Rattle.spu_model.specs.Unit.{unitAt}
 use Rattle.spu_model.proofs.Grammar.{unit-iff}
 use Rattle.listing_model.specs.Lines.{refusedLine}
-use Rattle.listing_model.specs.Title.{shownAt, unitFor, shownFor, lineOf, cueLine}
-use Rattle.listing_model.specs.Answers.{Put, Written, Exactly}
+use Rattle.listing_model.specs.Title.{list-stream, shownAt, unitFor, formFor, shownFor, lineOf, cueLine}
+use Rattle.listing_model.specs.Answers.{Put, Written, Exactly, Undisturbed}
 use Rattle.listing_model.proofs.Laws.{written}
 
 module _ (cs : List Cue) (f : List ℕ) (n : ℕ) where
   -- what a reading shows is shown
-  module _ (text : List ℕ) (x : Reading) (e : cuesOf (x .lines) ≡ cs) (h : IsReading text f (wanted n) x) where
+  module _ (text : List ℕ) (x : Reading) (e : cuesOf (x .lines) ≡ cs) (h : IsReading text f (wanted n list-stream) x) where
     cue-is : cueAt cs n ≡ some (h .at)
     cue-is = (λ i. cueAt (sym e i) (sym (h .cue-is) i)) ∙ h .listed
 
     unit-is : unitFor f (h .at .position) ≡ ok (x .unit)
     unfolding unitFor
-    unit-is = rw (form-iff subpicture f (h .at .position) (x .form) .1 (h .before-end, h .form-is)) (unit-iff (unitOf (x .form)) (x .unit) .1 (h .unit-is))
+    unit-is = rw (form-iff (streamId list-stream) f (h .at .position) (x .form) .1 (h .before-end, h .form-is)) (unit-iff (unitOf (x .form)) (x .unit) .1 (h .unit-is))
 
     shown-is : shownAt (h .at .start) (durationOf cs n) (x .unit) ≡ shown x
     unfolding shown
@@ -53,18 +60,20 @@ module _ (cs : List Cue) (f : List ℕ) (n : ℕ) where
     reading-shown = rw (cue-is, unit-is) (ap ok shown-is)
 
   -- and what is shown is a reading's
-  pub shown-reading : (text : List ℕ) (ls : List Said) → IsText text ls → cuesOf ls ≡ cs → (s : Shown) → shownFor cs f n ≡ ok s → (x : Reading) × IsReading text f (wanted n) x
+  pub shown-reading : (text : List ℕ) (ls : List Said) → IsText text ls → cuesOf ls ≡ cs → (s : Shown)
+      → shownFor cs f n ≡ ok s → (x : Reading) × IsReading text f (wanted n list-stream) x
   unfolding shownFor unitFor
   shown-reading text ls t e s q =
       let a = andThen-ok (need no-cue (cueAt cs n)) _ q in
       let c = a .0 in
       let b = mapRes-ok (shownAt (c .start) (durationOf cs n)) (unitFor f (c .position)) (a .2) in
-      let m = andThen-ok (formAt subpicture f (c .position)) _ (b .1) in
-      let i = form-iff subpicture f (c .position) (m .0) .0 (m .1) in (
+      let m = andThen-ok (formAt (streamId list-stream) f (c .position)) _ (b .1) in
+      let i = form-iff (streamId list-stream) f (c .position) (m .0) .0 (m .1) in (
         record { lines = ls; cue = n; form = m .0; unit = b .0 },
         record {
           text-is = t;
           cue-is = refl;
+          stream-is = omega arith;
           at = c;
           listed = ap (λ (l : List Cue). cueAt l n) e ∙ need-some no-cue (cueAt cs n) (a .1);
           before-end = i .0;
@@ -84,17 +93,36 @@ module _ (cs : List Cue) (f : List ℕ) (n : ℕ) where
         refused = λ text ls t e m. none-given text ls t e m (shownFor cs f n) refl;
       }
     where
-      none-given : (text : List ℕ) (ls : List Said) → IsText text ls → cuesOf ls ≡ cs → ((x : Reading) → IsReading text f (wanted n) x → ⊥)
+      none-given : (text : List ℕ) (ls : List Said) → IsText text ls → cuesOf ls ≡ cs
+          → ((x : Reading) → IsReading text f (wanted n list-stream) x → ⊥)
           → (o : Res Shown) → shownFor cs f n ≡ o → (k : ℕ) × (l′ ≡ sets l 0 (refusedLine n k))
       none-given text ls t e m (ok s) q = let y = shown-reading text ls t e s q in absurd (m (y .0) (y .1))
       none-given text ls t e m (refuse k) q = (k, w .stored ∙ ap (λ (s : Res Shown). sets l 0 (lineOf n s)) q)
 
-      given : (text : List ℕ) (ls : List Said) → IsText text ls → cuesOf ls ≡ cs → (o : Res Shown) → shownFor cs f n ≡ o → IsOk o → (x : Reading) × IsReading text f (wanted n) x
+      given : (text : List ℕ) (ls : List Said) → IsText text ls → cuesOf ls ≡ cs → (o : Res Shown) → shownFor cs f n ≡ o
+          → IsOk o → (x : Reading) × IsReading text f (wanted n list-stream) x
       given text ls t e (ok s) q y = shown-reading text ls t e s q
       given text ls t e (refuse k) q y = absurd y
 
-  -- a whole line
-  pub listed-line : {k r : ℕ} {l l′ : List ℕ} (a : List ℕ) → k ≤ 256 → a ≡ cueLine cs f n → Put k l 0 a r l′ → Written (cueLine cs f n) l r l′ × Exactly cs f n l l′
-  listed-line {k} {r} {l} {l′} a i e p =
-      let w : Written (cueLine cs f n) l r l′ = written i (subst (λ (s : List ℕ). Put k l 0 s r l′) e p) in
-      (w, claim l l′ r w)
+  -- what other streams carry does not count
+  pub undisturbed : (l s : List ℕ) (r : ℕ) (l′ s′ : List ℕ) → Written (cueLine cs f n) l r l′
+      → s′ ≡ sets s 0 (unitStored (formFor cs f n)) → Undisturbed cs f n l s r l′ s′
+  unfolding shownFor unitFor formFor
+  undisturbed l s r l′ s′ w q g c ps e k a t l″ s″ v u =
+      let z = form-same list-stream f g (c .position) ps k a in
+      let x : shownFor cs f n ≡ shownFor cs g n = rw e (ap (λ (m : Res Form). mapRes (shownAt (c .start) (durationOf cs n)) (andThen m (λ o. unitAt (unitOf o)))) z) in
+      let y : formFor cs f n ≡ formFor cs g n = rw e z in
+      record {
+        readings = λ text ls i o. readings-same text (wanted n list-stream) ls c i (ap (λ (v : List Cue). cueAt v n) o ∙ e) f g ps k a;
+        size = w .size ∙ ap (λ (o : Res Shown). length (lineOf n o)) x ∙ sym (v .size);
+        line = w .stored ∙ ap (λ (o : Res Shown). sets l 0 (lineOf n o)) x ∙ sym (v .stored);
+        scratch = q ∙ ap (λ (o : Res Form). sets s 0 (unitStored o)) y ∙ sym u;
+      }
+
+  -- a whole line, with what is left in scratch
+  pub listed-line : {k r : ℕ} {l l′ : List ℕ} (a s s′ : List ℕ) → k ≤ 256 → a ≡ cueLine cs f n → Put k l 0 a r l′
+      → s′ ≡ sets s 0 (unitStored (formFor cs f n))
+      → Written (cueLine cs f n) l r l′ × Exactly cs f n l l′ × (s′ ≡ sets s 0 (unitStored (formFor cs f n))) × Undisturbed cs f n l s r l′ s′
+  listed-line {k} {r} {l} {l′} a s s′ i e p q =
+      let w : Written (cueLine cs f n) l r l′ = written i (subst (λ (b : List ℕ). Put k l 0 b r l′) e p) in
+      (w, claim l l′ r w, q, undisturbed l s r l′ s′ w q)

@@ -19,11 +19,11 @@ use Rattle.idx_model.specs.declared.IdxAnswer.{IdxAnswer}
 use Rattle.idx_model.proofs.Picks.{cue-out, last-duration, next-duration, text-open}
 use Rattle.idx_model.proofs.Grammar.{room-iff}
 use Rattle.idx_model.proofs.Refusals.{text-refuses}
-use Rattle.grammar.specs.Packets.{subpicture}
+use Rattle.grammar.specs.Packets.{streamId}
 use Rattle.ps_model.specs.Packets.{formAt}
 use Rattle.ps_model.specs.Answers.{unitStored}
 use Rattle.listing_model.specs.Lines.{refusedLine, cuesLine, indexLine, fileLine}
-use Rattle.listing_model.specs.Title.{formFor, shownFor, cueLine, readable}
+use Rattle.listing_model.specs.Title.{list-stream, formFor, shownFor, cueLine, readable}
 use Rattle.listing_model.specs.Answers.{Put, positionLine, tableOf, Headed}
 use Rattle.listing_model.specs.declared.Head.{Head}
 use Rattle.listing_model.proofs.Laws.{put-as, written}
@@ -58,7 +58,7 @@ module _ (zs : List ℤ) (ps : List ℕ) (k : ℕ) (f : List ℕ) (n size : ℕ)
   unfolding formFor
   form-none h s = rw (cue-out (tableOf zs ps k) n (omega (arith, table-length zs ps k)))
 
-  pub form-some : n < size → (s s′ : List ℕ) → s′ ≡ sets s 0 (unitStored (formAt subpicture f (getD ps n 0))) → s′ ≡ sets s 0 (unitStored (formFor (tableOf zs ps k) f n))
+  pub form-some : n < size → (s s′ : List ℕ) → s′ ≡ sets s 0 (unitStored (formAt (streamId list-stream) f (getD ps n 0))) → s′ ≡ sets s 0 (unitStored (formFor (tableOf zs ps k) f n))
   unfolding formFor
   form-some h s s′ e = rw (table-at zs ps k n (omega (arith, table-length zs ps k))) e
 

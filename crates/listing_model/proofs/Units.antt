@@ -3,6 +3,7 @@ use Prim.Native.Nat.{ℕ, zero, suc, _+_, _-_, _≤_, _<_}
 use native.Mathlib.Omega.{arith}
 use mathlib.Core.Path.{_≡_, refl, sym, ap, _∙_, subst}
 use mathlib.Core.Logic.{_⊎_, inl, inr}
+use mathlib.Core.Bool.{Bool}
 use mathlib.Core.Option.{Option, some, none}
 use mathlib.Core.List.{List, [], _∷_, _++_}
 use lib.IntN.{ℤ}
@@ -14,7 +15,7 @@ use borrow.Author.Tests.{le-leb}
 use Rattle.outcome.specs.Outcome.{Res, ok, refuse, andThen, mapRes}
 use Rattle.outcome.proofs.Laws.{andThen-ok, mapRes-ok, part-slice}
 use Rattle.grammar.specs.Bytes.{byte, word}
-use Rattle.grammar.specs.Packets.{Packet, Part, keptBytes, joined, Packets, IsPack, IsPrivate, IsOther, IsPacket, Keeps, Form, bare, packets, IsForm, unitOf, scratchFor, subpicture}
+use Rattle.grammar.specs.Packets.{Packet, Part, keptBytes, joined, Packets, IsPack, IsPrivate, IsOther, IsPacket, Keeps, Form, bare, packets, IsForm, unitOf, scratchFor, streamId}
 use Rattle.grammar.specs.Record.{told, width}
 use Rattle.grammar.specs.Picture.{ListedUnit}
 use Rattle.control_model.specs.Chain.{controlAt}
@@ -26,14 +27,14 @@ use Rattle.ps_model.specs.Answers.{formStored, unitGiven, unitStored, unitPart,
 use Rattle.ps_model.specs.declared.UnitAnswer.{UnitAnswer}
 use Rattle.ps_model.specs.declared.UnitAnswer.the-variants as unit-answer
 use Rattle.ps_model.proofs.Grammar.{form-iff}
-use Rattle.ps_model.proofs.Claim.{unit-sound, unit-there}
+use Rattle.ps_model.proofs.Claim.{stream-sound, unit-there}
 use Rattle.spu_model.specs.Unit.{rowsAt, listedUnit, unitAt, countsOf}
 use Rattle.spu_model.specs.Answers.{spuAnswer}
 use Rattle.spu_model.specs.declared.SpuAnswer.{SpuAnswer}
 use Rattle.spu_model.specs.declared.SpuAnswer.the-variants as spu-answer
 use Rattle.spu_model.proofs.Loops.{known}
 use Rattle.listing_model.specs.Lines.{shownLine, refusedLine}
-use Rattle.listing_model.specs.Title.{shownAt, unitFor, lineOf}
+use Rattle.listing_model.specs.Title.{list-stream, shownAt, unitFor, lineOf}
 use Rattle.listing_model.specs.Answers.{Put, recordShown, unitLine, positionLine}
 use Rattle.listing_model.proofs.Laws.{put-as}
 use Rattle.rle_model.specs.Answers.{nothing, listedCounts}
@@ -76,58 +77,59 @@ small-drop (suc n) (b ∷ s) h = small-drop n s (h .1)
 small-slice : (a e : ℕ) (s : List ℕ) → Small s → Small (slice a e s)
 small-slice a e s h = subst Small (part-slice a e s) (small-take (e - a) (drop a s) (small-drop a s h))
 
-module _ (f : List ℕ) (h : Small f) where
-  -- what a packet keeps
-  small-none : (k : Option Part) → k ≡ none → Small (keptBytes k)
-  unfolding Small
-  small-none none e = tt
-  small-none (some p) e = absurd (let z : _≡_ {A = ℕ} 0 1 = cc in omega arith)
+-- what a packet keeps
+small-none : (k : Option Part) → k ≡ none → Small (keptBytes k)
+unfolding Small
+small-none none e = tt
+small-none (some p) e = absurd (let z : _≡_ {A = ℕ} 0 1 = cc in omega arith)
 
-  small-keeps : (b e : ℕ) (k : Option Part) → Keeps subpicture f b e k → Small (keptBytes k)
+short-take : (n : ℕ) (s : List ℕ) → length (take n s) ≤ n
+short-take zero s = omega arith
+short-take (suc n) [] = omega arith
+short-take (suc n) (b ∷ s) = omega (arith, short-take n s)
+
+small-word : (s : List ℕ) → Small s → word s 0 ≤ 65535
+unfolding word
+small-word s q = omega (arith, small-byte s q 0, small-byte s q (0 + 1))
+
+module _ (id : ℕ → Bool) (f : List ℕ) (h : Small f) where
+  small-keeps : (b e : ℕ) (k : Option Part) → Keeps id f b e k → Small (keptBytes k)
   unfolding Small
   small-keeps b e none q = tt
   small-keeps b e (some p) q = subst Small (sym (q .2 .bytes-are)) (small-slice (b + 1) e f h)
 
-  small-kept : (p : Packet) → IsPacket subpicture f p → Small (keptBytes (p .kept))
+  small-kept : (p : Packet) → IsPacket id f p → Small (keptBytes (p .kept))
   small-kept p i = go (i .kind)
     where
-      go : IsPack f p ⊎ (IsPrivate subpicture f p ⊎ IsOther f p) → Small (keptBytes (p .kept))
+      go : IsPack f p ⊎ (IsPrivate id f p ⊎ IsOther f p) → Small (keptBytes (p .kept))
       go (inl q) = small-none (p .kept) (q .1)
       go (inr (inl q)) = small-keeps (q .start) (p .end) (p .kept) (q .keeps)
       go (inr (inr q)) = small-none (p .kept) (q .keeps-nothing)
 
-  small-joined : (at : ℕ) (k : List ℕ) (ps : List Packet) → Packets subpicture f at k ps → Small (joined ps)
+  small-joined : (at : ℕ) (k : List ℕ) (ps : List Packet) → Packets id f at k ps → Small (joined ps)
   unfolding Small joined Packets
   small-joined at k [] q = tt
   small-joined at k (p ∷ ps) q = small-append (keptBytes (p .kept)) (joined ps) (small-kept p (q .2)) (small-joined (p .end) (k ++ keptBytes (p .kept)) ps (q .3))
 
-  short-take : (n : ℕ) (s : List ℕ) → length (take n s) ≤ n
-  short-take zero s = omega arith
-  short-take (suc n) [] = omega arith
-  short-take (suc n) (b ∷ s) = omega (arith, short-take n s)
-
-  small-word : (s : List ℕ) → Small s → word s 0 ≤ 65535
-  unfolding word
-  small-word s q = omega (arith, small-byte s q 0, small-byte s q (0 + 1))
-
-  scratch-small : (p : ℕ) (m : Form) → IsForm subpicture f p m → scratchFor m ≤ 65535
+  scratch-small : (p : ℕ) (m : Form) → IsForm id f p m → scratchFor m ≤ 65535
   unfolding unitOf
   scratch-small p (bare u) q = omega arith
   scratch-small p (packets ps) q = omega (arith, short-take (word (joined ps) 0) (joined ps), small-word (joined ps) (small-joined p [] ps (q .1)))
 
   -- so 65,536 bytes of scratch are enough
-  scratch-open : (p n : ℕ) → 65535 ≤ n → ps-unit.unitAt subpicture f p n ≡ formAt subpicture f p
+  scratch-open : (p n : ℕ) → 65535 ≤ n → ps-unit.unitAt id f p n ≡ formAt id f p
   unfolding ps-unit.unitAt
-  scratch-open p n l = go (formAt subpicture f p) refl
+  scratch-open p n l = go (formAt id f p) refl
     where
-      go : (r : Res Form) → formAt subpicture f p ≡ r → ps-unit.withScratch n r ≡ r
+      go : (r : Res Form) → formAt id f p ≡ r → ps-unit.withScratch n r ≡ r
       go (refuse k) e = refl
-      go (ok m) e = rw (le-leb (scratchFor m) n (omega (arith, scratch-small p m (form-iff subpicture f p m .0 e .1))))
+      go (ok m) e = rw (le-leb (scratchFor m) n (omega (arith, scratch-small p m (form-iff id f p m .0 e .1))))
 
 -- ---- The line of a unit
 
 -- what is shown has a size
-pub shows-sides : (u : List ℕ) (r : SpuAnswer) (s : Spu) → r ≡ spuAnswer (unitAt u) → r ≡ spu-answer.Shows s → (s .x1 ≤ s .x2) × (s .y1 ≤ s .y2)
+pub shows-sides : (u : List ℕ) (r : SpuAnswer) (s : Spu) → r ≡ spuAnswer (unitAt u) → r ≡ spu-answer.Shows s
+    → (s .x1 ≤ s .x2) × (s .y1 ≤ s .y2)
 unfolding unitAt spuOf
 shows-sides u r s d q = go (unitAt u) refl (sym q ∙ d)
   where
@@ -143,69 +145,81 @@ shows-sides u r s d q = go (unitAt u) refl (sym q ∙ d)
 
 module _ (n : ℕ) (z : ℤ) (o : Option ℕ) where
   module _ (y : ℤ) (e : y ≡ z) where
-    pub shows-line : {l l′ : List ℕ} {k : ℕ} (u : List ℕ) (r : SpuAnswer) (s : Spu) (v : ℕ) → r ≡ spuAnswer (unitAt u) → r ≡ spu-answer.Shows s
+    pub shows-line : {l l′ : List ℕ} {k : ℕ} (u : List ℕ) (r : SpuAnswer) (s : Spu) (v : ℕ) → r ≡ spuAnswer (unitAt u)
+        → r ≡ spu-answer.Shows s
         → Put k l 0 (shownLine n (recordShown y o s)) v l′ → Put k l 0 (unitLine n z o u) v l′
     unfolding spuOf
     shows-line u r s v d q p = put-as (go (unitAt u) (sym q ∙ d)) p
       where
-        go : (x : Res ListedUnit) → spu-answer.Shows s ≡ spuAnswer x → shownLine n (recordShown y o s) ≡ lineOf n (mapRes (shownAt z o) x)
+        go : (x : Res ListedUnit) → spu-answer.Shows s ≡ spuAnswer x
+            → shownLine n (recordShown y o s) ≡ lineOf n (mapRes (shownAt z o) x)
         go (refuse m) f = let w : _≡_ {A = ℕ} 0 1 = cc in absurd (omega arith)
         go (ok m) f =
             let w : s ≡ spuOf (told (m .blocks)) (countsOf m) = cc in
             ap (λ (i : Spu). shownLine n (recordShown y o i)) w ∙ ap (λ (i : ℤ). shownLine n (recordShown i o (spuOf (told (m .blocks)) (countsOf m)))) e
 
-    pub part-line : {l l′ : List ℕ} {k : ℕ} (u w : List ℕ) (v : ℕ) → u ≡ w → Put k l 0 (unitLine n y o u) v l′ → Put k l 0 (unitLine n z o w) v l′
+    pub part-line : {l l′ : List ℕ} {k : ℕ} (u w : List ℕ) (v : ℕ) → u ≡ w → Put k l 0 (unitLine n y o u) v l′
+        → Put k l 0 (unitLine n z o w) v l′
     part-line u w v q p = put-as (ap (unitLine n y o) q ∙ ap (λ (i : ℤ). unitLine n i o w) e) p
 
-  pub refuses-line : {l l′ : List ℕ} {k : ℕ} (u : List ℕ) (r : SpuAnswer) (m v : ℕ) → r ≡ spuAnswer (unitAt u) → r ≡ spu-answer.Refused m
+  pub refuses-line : {l l′ : List ℕ} {k : ℕ} (u : List ℕ) (r : SpuAnswer) (m v : ℕ) → r ≡ spuAnswer (unitAt u)
+      → r ≡ spu-answer.Refused m
       → Put k l 0 (refusedLine n m) v l′ → Put k l 0 (unitLine n z o u) v l′
   refuses-line u r m v d q p = put-as (go (unitAt u) (sym q ∙ d)) p
     where
-      go : (x : Res ListedUnit) → spu-answer.Refused m ≡ spuAnswer x → refusedLine n m ≡ lineOf n (mapRes (shownAt z o) x)
+      go : (x : Res ListedUnit) → spu-answer.Refused m ≡ spuAnswer x
+          → refusedLine n m ≡ lineOf n (mapRes (shownAt z o) x)
       go (ok l) f = let w : _≡_ {A = ℕ} 0 1 = cc in absurd (omega arith)
       go (refuse j) f = let w : m ≡ j = cc in ap (refusedLine n) w
 
 -- ---- The line of a position
 
-module _ (f : List ℕ) (bytes : (i : ℕ) → Fits w8 (byte f i)) (p : ℕ) (s s′ : List ℕ) (long : length s ≡ 65536) (r : UnitAnswer) (d : Extracted f p s r s′) where
-  open-form : ps-unit.unitAt subpicture f p (length s) ≡ formAt subpicture f p
-  open-form = scratch-open f (small-all f (λ i. bytes i .fits)) p (length s) (omega arith)
+module _ (f : List ℕ) (bytes : (i : ℕ) → Fits w8 (byte f i)) (p : ℕ) (s s′ : List ℕ) (long : length s ≡ 65536) (r : UnitAnswer) (d : Extracted f p list-stream s r s′) where
+  open-form : ps-unit.streamUnit list-stream f p (length s) ≡ formAt (streamId list-stream) f p
+  unfolding ps-unit.streamUnit
+  open-form = scratch-open (streamId list-stream) f (small-all f (λ i. bytes i .fits)) p (length s) (omega arith)
 
   unit-found : ((k : ℕ) → r ≡ unit-answer.Refused k → ⊥) → unitAt (unitPart f s′ p r) ≡ unitFor f p
   unfolding unitFor
-  unit-found o = go (ps-unit.unitAt subpicture f p (length s)) refl (d .answer) (d .scratch)
+  unit-found o = go (ps-unit.streamUnit list-stream f p (length s)) refl (d .answer) (d .scratch)
     where
-      go : (x : Res Form) → ps-unit.unitAt subpicture f p (length s) ≡ x → r ≡ unitGiven x → s′ ≡ sets s 0 (unitStored x)
-          → unitAt (unitPart f s′ p r) ≡ andThen (formAt subpicture f p) (λ m. unitAt (unitOf m))
+      go : (x : Res Form) → ps-unit.streamUnit list-stream f p (length s) ≡ x → r ≡ unitGiven x
+          → s′ ≡ sets s 0 (unitStored x)
+          → unitAt (unitPart f s′ p r) ≡ andThen (formAt (streamId list-stream) f p) (λ m. unitAt (unitOf m))
       go (refuse k) e g q = absurd (o k g)
       go (ok m) e g q =
-          let t = unit-sound f p (length s) m e in
-          let i = form-iff subpicture f p m .0 (t .0) in
+          let t = stream-sound f p list-stream (length s) m e in
+          let i = form-iff (streamId list-stream) f p m .0 (t .1) in
           let u : unitPart f s′ p r ≡ unitOf m =
           ap (λ (x : List ℕ). unitPart f x p r) q
           ∙ ap (unitPart f (sets s 0 (formStored m)) p) g
-          ∙ unit-there f p s m (i .1) (t .1) in
-          rw (t .0) (ap unitAt u)
+          ∙ unit-there (streamId list-stream) f p s m (i .1) (t .2) in
+          rw (t .1) (ap unitAt u)
 
   unit-none : (k : ℕ) → r ≡ unit-answer.Refused k → refuse k ≡ unitFor f p
   unfolding unitFor
-  unit-none k q = go (formAt subpicture f p) refl (sym q ∙ d .answer ∙ ap unitGiven open-form)
+  unit-none k q = go (formAt (streamId list-stream) f p) refl (sym q ∙ d .answer ∙ ap unitGiven open-form)
     where
-      go : (x : Res Form) → formAt subpicture f p ≡ x → unit-answer.Refused k ≡ unitGiven (formAt subpicture f p) → refuse k ≡ andThen (formAt subpicture f p) (λ m. unitAt (unitOf m))
+      go : (x : Res Form) → formAt (streamId list-stream) f p ≡ x
+          → unit-answer.Refused k ≡ unitGiven (formAt (streamId list-stream) f p)
+          → refuse k ≡ andThen (formAt (streamId list-stream) f p) (λ m. unitAt (unitOf m))
       go (ok (bare u)) e g = absurd (let w : _≡_ {A = ℕ} 0 1 = cc in omega arith)
       go (ok (packets ps)) e g = absurd (let w : _≡_ {A = ℕ} 0 1 = cc in omega arith)
       go (refuse j) e g = let w : k ≡ j = cc in rw e (ap refuse w)
 
 -- what is left in scratch
-pub scratch-kept : (f : List ℕ) (bytes : (i : ℕ) → Fits w8 (byte f i)) (p : ℕ) (s s′ : List ℕ) (r : UnitAnswer) → length s ≡ 65536 → Extracted f p s r s′
-    → s′ ≡ sets s 0 (unitStored (formAt subpicture f p))
+pub scratch-kept : (f : List ℕ) (bytes : (i : ℕ) → Fits w8 (byte f i)) (p : ℕ) (s s′ : List ℕ) (r : UnitAnswer)
+    → length s ≡ 65536 → Extracted f p list-stream s r s′
+    → s′ ≡ sets s 0 (unitStored (formAt (streamId list-stream) f p))
 scratch-kept f bytes p s s′ r long d = d .scratch ∙ ap (λ (x : Res Form). sets s 0 (unitStored x)) (open-form f bytes p s s′ long r d)
 
-pub found-line : (n : ℕ) (z : ℤ) (o : Option ℕ) (y : ℤ) (e : y ≡ z) {l l′ : List ℕ} {k : ℕ} (v : ℕ) (f : List ℕ) (bytes : (i : ℕ) → Fits w8 (byte f i)) (p : ℕ) (s s′ : List ℕ) (r : UnitAnswer) → length s ≡ 65536
-    → Extracted f p s r s′ → ((j : ℕ) → r ≡ unit-answer.Refused j → ⊥) → Put k l 0 (unitLine n y o (unitPart f s′ p r)) v l′ → Put k l 0 (positionLine n z o f p) v l′
+pub found-line : (n : ℕ) (z : ℤ) (o : Option ℕ) (y : ℤ) (e : y ≡ z) {l l′ : List ℕ} {k : ℕ} (v : ℕ) (f : List ℕ) (bytes : (i : ℕ) → Fits w8 (byte f i)) (p : ℕ) (s s′ : List ℕ) (r : UnitAnswer)
+    → length s ≡ 65536
+    → Extracted f p list-stream s r s′ → ((j : ℕ) → r ≡ unit-answer.Refused j → ⊥) → Put k l 0 (unitLine n y o (unitPart f s′ p r)) v l′ → Put k l 0 (positionLine n z o f p) v l′
 found-line n z o y e v f bytes p s s′ r long d h q =
     put-as (ap (λ (x : Res ListedUnit). lineOf n (mapRes (shownAt y o) x)) (unit-found f bytes p s s′ long r d h) ∙ ap (λ (i : ℤ). positionLine n i o f p) e) q
 
-pub none-line : (n : ℕ) (z : ℤ) (o : Option ℕ) {l l′ : List ℕ} {k : ℕ} (v : ℕ) (f : List ℕ) (bytes : (i : ℕ) → Fits w8 (byte f i)) (p : ℕ) (s s′ : List ℕ) (r : UnitAnswer) (m : ℕ) → length s ≡ 65536
-    → Extracted f p s r s′ → r ≡ unit-answer.Refused m → Put k l 0 (refusedLine n m) v l′ → Put k l 0 (positionLine n z o f p) v l′
+pub none-line : (n : ℕ) (z : ℤ) (o : Option ℕ) {l l′ : List ℕ} {k : ℕ} (v : ℕ) (f : List ℕ) (bytes : (i : ℕ) → Fits w8 (byte f i)) (p : ℕ) (s s′ : List ℕ) (r : UnitAnswer) (m : ℕ)
+    → length s ≡ 65536
+    → Extracted f p list-stream s r s′ → r ≡ unit-answer.Refused m → Put k l 0 (refusedLine n m) v l′ → Put k l 0 (positionLine n z o f p) v l′
 none-line n z o v f bytes p s s′ r m long d h q = put-as (ap (λ (x : Res ListedUnit). lineOf n (mapRes (shownAt z o) x)) (unit-none f bytes p s s′ long r d m h)) q

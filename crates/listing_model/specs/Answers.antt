@@ -10,12 +10,15 @@ use lib.ListN.{length}
 use lib.Seq.{sets}
 use Rattle.outcome.specs.Outcome.{IsOk, mapRes}
 use Rattle.grammar.specs.Index.{Said, IsText}
-use Rattle.grammar.specs.IndexCues.{Cue, cuesOf}
+use Rattle.grammar.specs.IndexCues.{Cue, cuesOf, cueAt}
+use Rattle.grammar.specs.Packets.{Packet, streamId}
+use Rattle.grammar.specs.Streams.{Walk, Alike}
 use Rattle.grammar.specs.Reading.{wanted, Reading, IsReading, Shown, shown}
 use Rattle.control_model.specs.declared.Spu.{Spu}
+use Rattle.ps_model.specs.Answers.{unitStored}
 use Rattle.spu_model.specs.Unit.{unitAt}
 use Rattle.listing_model.specs.Lines.{refusedLine, shownLine}
-use Rattle.listing_model.specs.Title.{shownAt, unitFor, shownFor, lineOf, headLine, listedCues}
+use Rattle.listing_model.specs.Title.{list-stream, shownAt, unitFor, formFor, shownFor, lineOf, cueLine, headLine, listedCues}
 use Rattle.listing_model.specs.declared.Head.{Head}
 
 -- ---- In a line
@@ -70,13 +73,36 @@ tableOf (z ∷ starts) [] (suc k) = []
 tableOf (z ∷ starts) (p ∷ positions) (suc k) = record { start = z; position = p } ∷ tableOf starts positions k
 
 -- ---- What a cue's line says in the grammar's words
--- of a text with these cues: a line that is not refused exactly where there is a reading, and then with the values of every reading; where there
--- is none, a line that says so
+-- of a text with these cues: a line that is not refused exactly where there is a reading for stream 0, and then with the
+-- values of every reading; where there is none, a line that says so
 pub record Exactly (cs : List Cue) (f : List ℕ) (n : ℕ) (l l′ : List ℕ) : Type 0 where
-  pub exactly-when : (text : List ℕ) (ls : List Said) → IsText text ls → cuesOf ls ≡ cs → IsOk (shownFor cs f n) ↔ ((x : Reading) × IsReading text f (wanted n) x)
-  pub same : (text : List ℕ) (x : Reading) → cuesOf (x .lines) ≡ cs → IsReading text f (wanted n) x → l′ ≡ sets l 0 (shownLine n (shown x))
-  pub refused : (text : List ℕ) (ls : List Said) → IsText text ls → cuesOf ls ≡ cs → ((x : Reading) → IsReading text f (wanted n) x → ⊥)
+  pub exactly-when : (text : List ℕ) (ls : List Said) → IsText text ls → cuesOf ls ≡ cs
+      → IsOk (shownFor cs f n) ↔ ((x : Reading) × IsReading text f (wanted n list-stream) x)
+  pub same : (text : List ℕ) (x : Reading) → cuesOf (x .lines) ≡ cs → IsReading text f (wanted n list-stream) x
+      → l′ ≡ sets l 0 (shownLine n (shown x))
+  pub refused : (text : List ℕ) (ls : List Said) → IsText text ls → cuesOf ls ≡ cs
+      → ((x : Reading) → IsReading text f (wanted n list-stream) x → ⊥)
       → (k : ℕ) × (l′ ≡ sets l 0 (refusedLine n k))
+
+-- ---- Other streams (FORMAT 2.11)
+
+-- f and g have the same readings for cue n of every text with the cues cs, and two calls leave the same line of the
+-- same length, and the same in scratch
+pub record SameLine (cs : List Cue) (f g : List ℕ) (n r t : ℕ) (l l′ s s′ : List ℕ) : Type 0 where
+  pub readings : (text : List ℕ) (ls : List Said) → IsText text ls → cuesOf ls ≡ cs
+      → (x : Reading) → IsReading text f (wanted n list-stream) x ↔ IsReading text g (wanted n list-stream) x
+  pub size : r ≡ t
+  pub line : l ≡ l′
+  pub scratch : s ≡ s′
+
+-- a file that differs from f in packets of other streams alone, among those walked from the cue's position, gives the
+-- same
+abbrev pub Undisturbed : List Cue → List ℕ → ℕ → List ℕ → List ℕ → ℕ → List ℕ → List ℕ → Type 0
+Undisturbed cs f n l s r l′ s′ =
+    (g : List ℕ) (c : Cue) (ps : List Packet) → cueAt cs n ≡ some c
+    → Walk (streamId list-stream) f (c .position) [] ps → Alike list-stream f g ps
+    → (t : ℕ) (l″ s″ : List ℕ) → Written (cueLine cs g n) l t l″ → s″ ≡ sets s 0 (unitStored (formFor cs g n))
+    → SameLine cs f g n r t l′ l″ s′ s″
 
 -- ---- The first line of a title: its length, the number of cues, the table that they are in, and what the buffers hold
 pub record Headed (there : Bool) (text file : List ℕ) (starts : List ℤ) (positions l : List ℕ) (r : Head) (starts′ : List ℤ) (positions′ l′ : List ℕ) : Type 0 where

@@ -9,7 +9,7 @@ use lib.IntN.{ℤ}
 use lib.ListN.{length}
 use Rattle.outcome.specs.Outcome.{Res, ok, refuse, need, andThen, mapRes, listed, no-cue}
 use Rattle.grammar.specs.IndexCues.{Cue, cuesOf, cueAt, durationOf}
-use Rattle.grammar.specs.Packets.{Form, unitOf, subpicture}
+use Rattle.grammar.specs.Packets.{Form, unitOf, streamId}
 use Rattle.grammar.specs.Record.{told, delayOf, width, height}
 use Rattle.grammar.specs.Picture.{ListedUnit}
 use Rattle.grammar.specs.Pixels.{codesIn}
@@ -20,6 +20,10 @@ use Rattle.spu_model.specs.Unit.{unitAt}
 use Rattle.listing_model.specs.Lines.{shownLine, refusedLine, cuesLine, indexLine, fileLine}
 
 -- ---- A cue
+
+-- the stream whose units are listed (FORMAT 8.3)
+abbrev pub list-stream : ℕ
+list-stream = 0
 
 -- what is shown of a unit l at these times
 abbrev pub shownAt : ℤ → Option ℕ → ListedUnit → Shown
@@ -38,11 +42,11 @@ shownAt start duration l =
 
 -- the unit at a cue's position: 12, 13, then 15 to 21, 25 and 26
 unfoldable pub unitFor : List ℕ → ℕ → Res ListedUnit
-unitFor f p = andThen (formAt subpicture f p) (λ m. unitAt (unitOf m))
+unitFor f p = andThen (formAt (streamId list-stream) f p) (λ m. unitAt (unitOf m))
 
 -- how the unit of cue n of the cues cs stands in the file: 11, 12 or 13
 unfoldable pub formFor : List Cue → List ℕ → ℕ → Res Form
-formFor cs f n = andThen (need no-cue (cueAt cs n)) (λ c. formAt subpicture f (c .position))
+formFor cs f n = andThen (need no-cue (cueAt cs n)) (λ c. formAt (streamId list-stream) f (c .position))
 
 -- what is shown of cue n of the cues cs
 unfoldable pub shownFor : List Cue → List ℕ → ℕ → Res Shown

@@ -3,11 +3,11 @@
 // A line of standard input is a row: the function, its name, its numbers and its bytes, with a bar between them. The
 // numbers:
 // read_code, read_through, align_through: a place. chg_colcon_lookup: column, line; the bands are those of the bytes,
-// or the words that stand behind another bar. measure_spu: none. extract_spu: position, scratch; the bytes are the head
-// of a file of 65,555 bytes, each i % 251, and those behind another bar stand at 32,774. build_demo_spu: width, height,
-// output, and for a picture that code builds its size, n, p and k: bytes 1 and 2 in turn, n at a time, but from 126,976
-// on p of them in pairs; or, where k is not 0, each of the first k pictures, whose bytes are the digits of its number
-// to base 4.
+// or the words that stand behind another bar. measure_spu: none. extract_spu: position, stream, scratch; the bytes are
+// the head of a file of 65,555 bytes, each i % 251, and those behind another bar stand at 32,774. build_demo_spu:
+// width, height, output, and for a picture that code builds its size, n, p and k: bytes 1 and 2 in turn, n at a time,
+// but from 126,976 on p of them in pairs; or, where k is not 0, each of the first k pictures, whose bytes are the
+// digits of its number to base 4.
 use bands_model::BandAnswer;
 use bands_model::LookAnswer;
 use control_model::Spu;
@@ -206,8 +206,9 @@ fn total(s: &[u8]) -> usize {
     sum
 }
 
-fn summed(file: &[u8], position: usize, scratch: &mut [u8]) {
-    let answer = ps::extract_spu(file, position, scratch);
+fn summed(line: &[u8], file: &[u8], scratch: &mut [u8]) {
+    let position = table::given(line, 0);
+    let answer = ps::extract_spu(file, position, table::given(line, 1), scratch);
     match answer {
         UnitAnswer::Bare(n) => {
             said(b": bare @,", n);
@@ -226,10 +227,10 @@ fn summed(file: &[u8], position: usize, scratch: &mut [u8]) {
     said(b"; scratch sum @", total(scratch));
 }
 
-fn with_scratch(file: &[u8], position: usize, room: usize) {
+fn with_scratch(line: &[u8], file: &[u8], room: usize) {
     let mut scratch = [FOUND; 65536];
     if room <= 65536 {
-        summed(file, position, &mut scratch[..room]);
+        summed(line, file, &mut scratch[..room]);
     }
 }
 
@@ -241,7 +242,7 @@ fn packets(line: &[u8], file: &mut [u8]) {
         return;
     }
     table::stored(line, 4, &mut file[32774..]);
-    with_scratch(file, table::given(line, 0), table::given(line, 1));
+    with_scratch(line, file, table::given(line, 2));
 }
 
 fn longest(line: &[u8]) {

@@ -1,16 +1,17 @@
--- The table of refusals by its numbers; and a refusal has one of them where each part of its definition has. Assumes nothing.
+-- The table of refusals by its numbers; and the number of a refusal has a property, as that of being one of them, where
+-- those of all parts of its definition have it. Assumes nothing.
 use Prim.Native.Nat.{ℕ, zero, suc, _<_}
 use native.Mathlib.Omega.{arith}
 use mathlib.Core.Path.{_≡_, refl, sym, subst, _∙_}
 use mathlib.Core.Bool.{Bool, true, false, cond}
 use mathlib.Core.Option.{Option, some, none}
 use mathlib.Core.List.{List, [], _∷_}
-use Rattle.outcome.specs.Outcome.{Res, ok, refuse, refusals, isOneOf, InTable, check, need, andThen, consRes, mapRes, Numbered, refusalOf, Returned}
+use Rattle.outcome.specs.Outcome.{Res, ok, refuse, refusals, isOneOf, InTable, check, need, andThen, consRes, mapRes, RefusedWith, Numbered, refusalOf, Returned}
 use Rattle.outcome.proofs.Laws.{clash}
 use Rattle.outcome.specs.Lists.{listFuel, listFrom}
 
--- 1 to 31, each once
-pub table : refusals ≡ 1 ∷ 2 ∷ 3 ∷ 4 ∷ 5 ∷ 6 ∷ 7 ∷ 8 ∷ 9 ∷ 10 ∷ 11 ∷ 12 ∷ 13 ∷ 14 ∷ 15 ∷ 16 ∷ 17 ∷ 18 ∷ 19 ∷ 20 ∷ 21 ∷ 22 ∷ 23 ∷ 24 ∷ 25 ∷ 26 ∷ 27 ∷ 28 ∷ 29 ∷ 30 ∷ 31 ∷ []
+-- 1 to 32, each once, and 32 before 11
+pub table : refusals ≡ 1 ∷ 2 ∷ 3 ∷ 4 ∷ 5 ∷ 6 ∷ 7 ∷ 8 ∷ 9 ∷ 10 ∷ 32 ∷ 11 ∷ 12 ∷ 13 ∷ 14 ∷ 15 ∷ 16 ∷ 17 ∷ 18 ∷ 19 ∷ 20 ∷ 21 ∷ 22 ∷ 23 ∷ 24 ∷ 25 ∷ 26 ∷ 27 ∷ 28 ∷ 29 ∷ 30 ∷ 31 ∷ []
 table = refl
 
 pub in-table : (n : ℕ) → isOneOf n refusals ≡ true → InTable n
@@ -19,56 +20,67 @@ in-table n h = record { listed-there = h }
 pub not-0 : (n : ℕ) → InTable n → n ≡ 0 → ⊥
 not-0 n h e = clash (isOneOf 0 refusals) (subst InTable e h .listed-there) refl
 
-pub check-numbered : {A : Type 0} (t : Bool) (n : ℕ) (r : Res A) → InTable n → Numbered r → Numbered (check t n r)
-check-numbered true n r h k = k
-check-numbered false n r h k = h
+module _ (P : ℕ → Type 0) where
+  pub check-numbered : {A : Type 0} (t : Bool) (n : ℕ) (r : Res A) → P n → RefusedWith P r → RefusedWith P (check t n r)
+  check-numbered true n r h k = k
+  check-numbered false n r h k = h
 
--- where what follows is asked only after the test
-pub checked-numbered : {A : Type 0} (t : Bool) (n : ℕ) (r : Res A) → InTable n → (t ≡ true → Numbered r) → Numbered (check t n r)
-checked-numbered true n r h k = k refl
-checked-numbered false n r h k = h
+  -- where what follows is asked only after the test
+  pub checked-numbered : {A : Type 0} (t : Bool) (n : ℕ) (r : Res A) → P n → (t ≡ true → RefusedWith P r)
+      → RefusedWith P (check t n r)
+  checked-numbered true n r h k = k refl
+  checked-numbered false n r h k = h
 
-pub cond-numbered : {A : Type 0} (t : Bool) (a b : Res A) → Numbered a → Numbered b → Numbered (cond t a b)
-cond-numbered true a b h k = h
-cond-numbered false a b h k = k
+  pub cond-numbered : {A : Type 0} (t : Bool) (a b : Res A) → RefusedWith P a → RefusedWith P b
+      → RefusedWith P (cond t a b)
+  cond-numbered true a b h k = h
+  cond-numbered false a b h k = k
 
-pub need-numbered : {A : Type 0} (n : ℕ) (o : Option A) → InTable n → Numbered (need n o)
-need-numbered n (some a) h = tt
-need-numbered n none h = h
+  pub need-numbered : {A : Type 0} (n : ℕ) (o : Option A) → P n → RefusedWith P (need n o)
+  need-numbered n (some a) h = tt
+  need-numbered n none h = h
 
-pub andThen-numbered : {A B : Type 0} (r : Res A) (k : A → Res B) → Numbered r → ((a : A) → Numbered (k a)) → Numbered (andThen r k)
-andThen-numbered (ok a) k h g = g a
-andThen-numbered (refuse n) k h g = h
+  pub andThen-numbered : {A B : Type 0} (r : Res A) (k : A → Res B) → RefusedWith P r → ((a : A) → RefusedWith P (k a))
+      → RefusedWith P (andThen r k)
+  andThen-numbered (ok a) k h g = g a
+  andThen-numbered (refuse n) k h g = h
 
-pub consRes-numbered : {A : Type 0} (a : A) (r : Res (List A)) → Numbered r → Numbered (consRes a r)
-consRes-numbered a (ok l) h = tt
-consRes-numbered a (refuse n) h = h
+  pub consRes-numbered : {A : Type 0} (a : A) (r : Res (List A)) → RefusedWith P r → RefusedWith P (consRes a r)
+  consRes-numbered a (ok l) h = tt
+  consRes-numbered a (refuse n) h = h
 
-pub mapRes-numbered : {A B : Type 0} (f : A → B) (r : Res A) → Numbered r → Numbered (mapRes f r)
-mapRes-numbered f (ok a) h = tt
-mapRes-numbered f (refuse n) h = h
+  pub mapRes-numbered : {A B : Type 0} (f : A → B) (r : Res A) → RefusedWith P r → RefusedWith P (mapRes f r)
+  mapRes-numbered f (ok a) h = tt
+  mapRes-numbered f (refuse n) h = h
 
--- what is refused with one number of the table only
-pub only-numbered : {A : Type 0} (n : ℕ) → InTable n → (r : Res A) → ((k : ℕ) → r ≡ refuse k → k ≡ n) → Numbered r
-only-numbered n h (ok a) g = tt
-only-numbered n h (refuse k) g = subst InTable (sym (g k refl)) h
+  -- what is refused with one number only
+  pub only-numbered : {A : Type 0} (n : ℕ) → P n → (r : Res A) → ((k : ℕ) → r ≡ refuse k → k ≡ n) → RefusedWith P r
+  only-numbered n h (ok a) g = tt
+  only-numbered n h (refuse k) g = subst P (sym (g k refl)) h
 
 -- a list, where each item that is asked for is
-module _ {S A : Type 0} (stop : S → Bool) (item : S → Res A) (next : S → A → S) (left : S → ℕ) (falls : (s : S) (a : A) → stop s ≡ false → item s ≡ ok a → left (next s a) < left s) (each : (s : S) → stop s ≡ false → Numbered (item s)) where
-  fuel-numbered : (f : ℕ) (s : S) → left s < f → Numbered (listFuel stop item next f s)
+module _ (P : ℕ → Type 0) {S A : Type 0} (stop : S → Bool) (item : S → Res A) (next : S → A → S) (left : S → ℕ) (falls : (s : S) (a : A) → stop s ≡ false → item s ≡ ok a → left (next s a) < left s) (each : (s : S) → stop s ≡ false → RefusedWith P (item s)) where
+  fuel-numbered : (f : ℕ) (s : S) → left s < f → RefusedWith P (listFuel stop item next f s)
   unfolding listFuel
   fuel-numbered zero s h = absurd (omega arith)
   fuel-numbered (suc f) s h = go (λ x p. fuel-numbered f (next s x) p) (stop s) (item s) refl refl (each s)
     where
-      go : ((x : A) → left (next s x) < f → Numbered (listFuel stop item next f (next s x))) → (b : Bool) (r : Res A) → stop s ≡ b → item s ≡ r → (stop s ≡ false → Numbered (item s))
-          → Numbered (cond b (ok []) (andThen r (λ a. consRes a (listFuel stop item next f (next s a)))))
+      go : ((x : A) → left (next s x) < f → RefusedWith P (listFuel stop item next f (next s x)))
+          → (b : Bool) (r : Res A) → stop s ≡ b → item s ≡ r → (stop s ≡ false → RefusedWith P (item s))
+          → RefusedWith P (cond b (ok []) (andThen r (λ a. consRes a (listFuel stop item next f (next s a)))))
       go i true r p q g = tt
-      go i false (refuse n) p q g = subst Numbered q (g p)
-      go i false (ok a) p q g = let z = falls s a p q in consRes-numbered a (listFuel stop item next f (next s a)) (i a (omega arith))
+      go i false (refuse n) p q g = subst (RefusedWith P) q (g p)
+      go i false (ok a) p q g = let z = falls s a p q in consRes-numbered P a (listFuel stop item next f (next s a)) (i a (omega arith))
 
-  pub list-numbered : (s : S) → Numbered (listFrom stop item next left s)
+  pub list-numbered : (s : S) → RefusedWith P (listFrom stop item next left s)
   unfolding listFrom
   list-numbered s = fuel-numbered (suc (left s)) s (omega arith)
+
+-- a property that follows from another
+pub refused-also : {A : Type 0} (P Q : ℕ → Type 0) → ((n : ℕ) → P n → Q n) → (r : Res A) → RefusedWith P r
+    → RefusedWith Q r
+refused-also P Q h (ok a) p = tt
+refused-also P Q h (refuse n) p = h n p
 
 -- so 0 is returned where nothing is refused, and otherwise a number of the table
 pub returned : {A : Type 0} (x : Res A) (r : ℕ) → Numbered x → r ≡ refusalOf x → Returned x r

@@ -42,6 +42,9 @@ bad-position = 9
 abbrev pub short-cues : ℕ
 short-cues = 10
 
+abbrev pub bad-stream : ℕ
+bad-stream = 32
+
 abbrev pub no-cue : ℕ
 no-cue = 11
 
@@ -105,11 +108,11 @@ long-unit = 30
 abbrev pub short-output : ℕ
 short-output = 31
 
--- the table of refusals (FORMAT 9): every number that is returned for one, and no other
+-- the table of refusals (FORMAT 9): every number that is returned for one, and no other, in the table's order
 abbrev pub refusals : List ℕ
 refusals =
     high-byte ∷ bad-width ∷ bad-height ∷ bad-token ∷ no-time ∷ no-position ∷ bad-time ∷ long-time ∷
-    bad-position ∷ short-cues ∷ no-cue ∷ past-file ∷ no-unit ∷ short-scratch ∷ no-head ∷ bad-head ∷
+    bad-position ∷ short-cues ∷ bad-stream ∷ no-cue ∷ past-file ∷ no-unit ∷ short-scratch ∷ no-head ∷ bad-head ∷
     cut-parameters ∷ small-size ∷ no-band-list ∷ unknown-command ∷ no-area ∷ short-pixels ∷ short-words ∷
     short-canvas ∷ no-top-field ∷ field-ran-out ∷ bad-side ∷ not-all-indices ∷ bad-index ∷ long-unit ∷
     short-output ∷ []
@@ -165,10 +168,14 @@ abbrev pub refusalOf : {A : Type 0} → Res A → ℕ
 refusalOf (ok a) = 0
 refusalOf (refuse n) = n
 
--- a refusal has a number of the table
+-- the number of a refusal has the property P
+abbrev pub RefusedWith : {A : Type 0} → (ℕ → Type 0) → Res A → Type 0
+RefusedWith P (ok a) = Unit {0}
+RefusedWith P (refuse n) = P n
+
+-- and that is to be in the table
 abbrev pub Numbered : {A : Type 0} → Res A → Type 0
-Numbered (ok a) = Unit {0}
-Numbered (refuse n) = InTable n
+Numbered r = RefusedWith InTable r
 
 -- the number r that is returned for x is 0 only where x is not refused, and otherwise a number of the table
 pub record Returned {A : Type 0} (x : Res A) (r : ℕ) : Type 0 where

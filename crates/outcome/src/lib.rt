@@ -33,6 +33,9 @@ pub const BAD_POSITION: u8 = 9;
 // A lent cue buffer has no room for a cue.
 pub const SHORT_CUES: u8 = 10;
 
+// A stream is above 31.
+pub const BAD_STREAM: u8 = 32;
+
 // The text has no such cue.
 pub const NO_CUE: u8 = 11;
 

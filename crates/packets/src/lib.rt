@@ -9,7 +9,7 @@ ghost use Prim.Native.Nat.{_≤_, _<_, _+_, _-_};
 ghost use lib.ListN.{length};
 ghost use Rattle.outcome.specs.Outcome.{ok};
 ghost use Rattle.grammar.specs.Bytes.{word};
-ghost use Rattle.grammar.specs.Packets.{bufferSize, stampSize, subpicture};
+ghost use Rattle.grammar.specs.Packets.{bufferSize, stampSize, isId};
 ghost use Rattle.ps_model.specs.OnePacket.{leading, header1At, bodyAt, packet, packAt, privateAt, packetAt};
 ghost use Rattle.ps_model.specs.PacketAnswers.{bodyGiven, bodyAnswer, bodyFound, bodyRest, packetGiven, wholeGiven};
 
@@ -113,16 +113,6 @@ pub fn parse_pes_body<'a>(pes: &'a [u8], found: &mut bool) -> &'a [u8]
     }
 }
 
-// Whether an id is a subpicture stream's.
-fn is_subpicture(b: u8) -> bool
-    ensures { λ r. ⌜ r ≡ subpicture b ⌝ }
-{
-    if b < 0x20 {
-        return false;
-    }
-    b <= 0x3F
-}
-
 // A packet of `size` bytes that keeps nothing.
 fn passing(file: &[u8], at: usize, size: usize) -> PacketAnswer
     requires { ⌜ at ≤ length (now file) ⌝ }
@@ -137,7 +127,7 @@ fn passing(file: &[u8], at: usize, size: usize) -> PacketAnswer
 // A pack header.
 fn pack(file: &[u8], at: usize) -> PacketAnswer
     requires { ⌜ at + 6 ≤ length (now file) ⌝ }
-    ensures { λ r. ⌜ r ≡ wholeGiven (length (now (file .entry))) (packAt subpicture (now (file .entry)) at) ⌝ }
+    ensures { λ r. ⌜ r ≡ wholeGiven (length (now (file .entry))) (packAt (now (file .entry)) at) ⌝ }
 {
     if file[at + 4] / 64 == 1 {
         if file.len() - at < 14 {
@@ -152,10 +142,10 @@ fn pack(file: &[u8], at: usize) -> PacketAnswer
     PacketAnswer::Refused(NO_UNIT)
 }
 
-// A private_stream_1 packet of `size` bytes after its length word.
-fn private_stream(file: &[u8], at: usize, size: usize) -> PacketAnswer
+// A private_stream_1 packet of `size` bytes after its length word, which keeps something where its body has that id.
+fn private_stream(file: &[u8], at: usize, size: usize, id: u8) -> PacketAnswer
     requires { ⌜ (at + 6 ≤ length (now file)) × (size ≡ word (now file) (at + 4)) ⌝ }
-    ensures { λ r. ⌜ r ≡ wholeGiven (length (now (file .entry))) (privateAt subpicture (now (file .entry)) at) ⌝ }
+    ensures { λ r. ⌜ r ≡ wholeGiven (length (now (file .entry))) (privateAt (isId id) (now (file .entry)) at) ⌝ }
 {
     let start = at + 6;
     if file.len() - start < size {
@@ -170,16 +160,16 @@ fn private_stream(file: &[u8], at: usize, size: usize) -> PacketAnswer
     if body.len() == 0 {
         return PacketAnswer::Passes(end);
     }
-    if is_subpicture(body[0]) {
+    if body[0] == id {
         return PacketAnswer::Keeps(end - (body.len() - 1), end);
     }
     PacketAnswer::Passes(end)
 }
 
-// The packet at a place.
-// Ruled out: a packet that ends past the file; a body without a subpicture's id kept.
-pub fn read_packet(file: &[u8], at: usize) -> PacketAnswer
-    ensures { λ r. ⌜ r ≡ packetGiven (packetAt subpicture (now (file .entry)) at) ⌝ }
+// The packet at a place; a body with that id keeps what follows it.
+// Ruled out: a packet that ends past the file; a body with another id kept.
+pub fn read_packet(file: &[u8], at: usize, id: u8) -> PacketAnswer
+    ensures { λ r. ⌜ r ≡ packetGiven (packetAt (isId id) (now (file .entry)) at) ⌝ }
 {
     if file.len() < 6 {
         return PacketAnswer::Refused(NO_UNIT);
@@ -202,7 +192,7 @@ pub fn read_packet(file: &[u8], at: usize) -> PacketAnswer
     }
     let size = word_of(file[at + 4], file[at + 5]);
     if code == 0xBD {
-        return private_stream(file, at, size);
+        return private_stream(file, at, size, id);
     }
     if code == 0xB9 {
         return PacketAnswer::Refused(NO_UNIT);

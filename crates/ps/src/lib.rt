@@ -1,4 +1,5 @@
 // The unit at a cue's position, bare or joined from the packets of a program stream (docs/FORMAT.md, section 2).
+use outcome::BAD_STREAM;
 use outcome::PAST_FILE;
 use outcome::SHORT_SCRATCH;
 use outcome::lesser;
@@ -14,13 +15,19 @@ ghost use Prim.Native.Nat.{_≤_, _<_, _+_, _-_};
 ghost use lib.Dec.{ltb};
 ghost use lib.ListN.{length, take, drop};
 ghost use lib.Seq.{sets, slice};
-ghost use Rattle.ps_model.specs.Claim.{Says};
+ghost use Rattle.ps_model.specs.Claim.{Says, Undisturbed};
 ghost use Rattle.outcome.specs.Outcome.{ok};
 ghost use Rattle.grammar.specs.Bytes.{byte, word};
-ghost use Rattle.grammar.specs.Packets.{Packet, packets, unitOf, subpicture};
+ghost use Rattle.grammar.specs.Packets.{Packet, packets, unitOf, isId};
 ghost use Rattle.ps_model.specs.Packets.{packetsAt, isBare};
 ghost use Rattle.ps_model.specs.Unit.{joinedAt};
 ghost use Rattle.ps_model.specs.Answers.{joinedGiven, unitGiven, unitStored, unitPart, Extracted};
+
+// The greatest stream.
+pub const TOP_STREAM: usize = 31;
+
+// The id of stream 0.
+const FIRST_ID: u8 = 0x20;
 
 // Byte j of what is joined once the bytes of the file from a up to e are: `old` where it was there before.
 fn joined_byte(file: &[u8], a: usize, e: usize, have: usize, j: usize, old: u8) -> u8
@@ -37,16 +44,16 @@ fn joined_byte(file: &[u8], a: usize, e: usize, have: usize, j: usize, old: u8) 
     file[a + i]
 }
 
-// How many bytes the packets give a unit.
-fn measure_packets(file: &[u8], from: usize) -> JoinedAnswer
-    ensures { λ r. ⌜ r ≡ joinedGiven (packetsAt subpicture (now (file .entry)) from []) ⌝ }
+// How many bytes the packets give a unit: those with that id.
+fn measure_packets(file: &[u8], from: usize, id: u8) -> JoinedAnswer
+    ensures { λ r. ⌜ r ≡ joinedGiven (packetsAt (isId id) (now (file .entry)) from []) ⌝ }
 {
     let mut at = from;
     let mut have: usize = 0;
     let mut first: u8 = 0;
     let mut second: u8 = 0;
     loop {
-        match read_packet(file, at) {
+        match read_packet(file, at, id) {
             PacketAnswer::Refused(n) => {
                 return JoinedAnswer::Refused(n);
             }
@@ -82,14 +89,14 @@ fn copy(file: &[u8], a: usize, m: usize, scratch: &mut [u8], to: usize)
 }
 
 // The unit of t bytes that the packets give, into the front of scratch.
-fn join_packets(file: &[u8], from: usize, t: usize, scratch: &mut [u8])
-    requires { ⌜ ((ps : List Packet) × (packetsAt subpicture (now file) from [] ≡ ok ps) × (t ≡ length (unitOf (packets ps))) × (t ≤ length (now scratch))) ⌝ }
-    ensures { λ _. ⌜ ((ps : List Packet) → packetsAt subpicture (now (file .entry)) from [] ≡ ok ps → now (scratch .exit) ≡ sets (now (scratch .entry)) 0 (unitOf (packets ps))) ⌝ }
+fn join_packets(file: &[u8], from: usize, id: u8, t: usize, scratch: &mut [u8])
+    requires { ⌜ ((ps : List Packet) × (packetsAt (isId id) (now file) from [] ≡ ok ps) × (t ≡ length (unitOf (packets ps))) × (t ≤ length (now scratch))) ⌝ }
+    ensures { λ _. ⌜ ((ps : List Packet) → packetsAt (isId id) (now (file .entry)) from [] ≡ ok ps → now (scratch .exit) ≡ sets (now (scratch .entry)) 0 (unitOf (packets ps))) ⌝ }
 {
     let mut at = from;
     let mut have: usize = 0;
     while have < t {
-        match read_packet(file, at) {
+        match read_packet(file, at, id) {
             PacketAnswer::Refused(_) => {
                 return;
             }
@@ -106,16 +113,16 @@ fn join_packets(file: &[u8], from: usize, t: usize, scratch: &mut [u8])
     }
 }
 
-// The unit that packets give, in the front of scratch, which is as found on a refusal.
-fn extract_spu_from_ps(file: &[u8], from: usize, scratch: &mut [u8]) -> UnitAnswer
-    ensures { λ r. ⌜ (r ≡ unitGiven (joinedAt subpicture (now (file .entry)) from (length (now (scratch .entry))))) × (now (scratch .exit) ≡ sets (now (scratch .entry)) 0 (unitStored (joinedAt subpicture (now (file .entry)) from (length (now (scratch .entry)))))) ⌝ }
+// The unit that packets with that id give, in the front of scratch, which is as found on a refusal.
+fn extract_spu_from_ps(file: &[u8], from: usize, id: u8, scratch: &mut [u8]) -> UnitAnswer
+    ensures { λ r. ⌜ (r ≡ unitGiven (joinedAt (isId id) (now (file .entry)) from (length (now (scratch .entry))))) × (now (scratch .exit) ≡ sets (now (scratch .entry)) 0 (unitStored (joinedAt (isId id) (now (file .entry)) from (length (now (scratch .entry)))))) ⌝ }
 {
-    match measure_packets(file, from) {
+    match measure_packets(file, from, id) {
         JoinedAnswer::Holds(t) => {
             if scratch.len() < t {
                 return UnitAnswer::Refused(SHORT_SCRATCH);
             }
-            join_packets(file, from, t, scratch);
+            join_packets(file, from, id, t, scratch);
             UnitAnswer::Joined(t)
         }
         JoinedAnswer::Refused(n) => UnitAnswer::Refused(n),
@@ -125,7 +132,7 @@ fn extract_spu_from_ps(file: &[u8], from: usize, scratch: &mut [u8]) -> UnitAnsw
 // The length of a bare unit; 0 where none stands.
 fn bare_size(file: &[u8], at: usize) -> usize
     requires { ⌜ at ≤ length (now file) ⌝ }
-    ensures { λ r. ⌜ r ≡ cond (isBare subpicture (now (file .entry)) at) (word (now (file .entry)) at) 0 ⌝ }
+    ensures { λ r. ⌜ r ≡ cond (isBare (now (file .entry)) at) (word (now (file .entry)) at) 0 ⌝ }
 {
     if file.len() - at < 4 {
         return 0;
@@ -140,11 +147,16 @@ fn bare_size(file: &[u8], at: usize) -> usize
     size
 }
 
-// The unit at a position: in the file, or in the front of scratch, which is as found otherwise.
-// Ruled out: scratch written before the last packet is known to be whole; a unit that packets give read from the file's own bytes.
-pub fn extract_spu(file: &[u8], position: usize, scratch: &mut [u8]) -> UnitAnswer
-    ensures { λ r. ⌜ Extracted (now (file .entry)) position (now (scratch .entry)) r (now (scratch .exit)) × Says (now (file .entry)) position (now (scratch .entry)) (now (scratch .exit)) r ⌝ }
+// The unit of a stream at a position: in the file, or in the front of scratch, which is as found otherwise.
+// Ruled out: scratch written before the last packet is known to be whole; a unit that packets give read from the file's
+// own bytes; bytes of another stream in a unit.
+pub fn extract_spu(file: &[u8], position: usize, stream: usize, scratch: &mut [u8]) -> UnitAnswer
+    ensures { λ r. ⌜ Extracted (now (file .entry)) position stream (now (scratch .entry)) r (now (scratch .exit)) × Says (now (file .entry)) position stream (now (scratch .entry)) (now (scratch .exit)) r
+        × Undisturbed (now (file .entry)) position stream (now (scratch .entry)) r (now (scratch .exit)) ⌝ }
 {
+    if TOP_STREAM < stream {
+        return UnitAnswer::Refused(BAD_STREAM);
+    }
     if file.len() <= position {
         return UnitAnswer::Refused(PAST_FILE);
     }
@@ -152,7 +164,8 @@ pub fn extract_spu(file: &[u8], position: usize, scratch: &mut [u8]) -> UnitAnsw
     if 0 < size {
         return UnitAnswer::Bare(size);
     }
-    extract_spu_from_ps(file, position, scratch)
+    let id = FIRST_ID + stream as u8;
+    extract_spu_from_ps(file, position, id, scratch)
 }
 
 // The n bytes from a on, or as many of them as there are.

@@ -13,36 +13,38 @@ use Rattle.outcome.specs.Outcome.{Res, ok, refuse, andThen, consRes}
 use Rattle.outcome.proofs.Laws.{ok-not-refuse, ok-injective, consRes-ok, sets-append, part-slice, either}
 use Rattle.outcome.proofs.Lists.{list-step}
 use Rattle.grammar.specs.Bytes.{byte, word}
-use Rattle.grammar.specs.Packets.{Packet, keptBytes, joined, packets, unitOf, subpicture}
+use Rattle.grammar.specs.Packets.{Packet, keptBytes, joined, packets, unitOf}
+use Rattle.grammar.proofs.PacketParts.{byte-slice}
 use Rattle.ps_model.specs.OnePacket.{packetAt}
 use Rattle.ps_model.specs.Packets.{Stand, stand, complete, standDone, standPacket, standNext, packetsAt}
 use Rattle.ps_model.specs.Answers.{joinedGiven}
 use Rattle.ps_model.specs.declared.JoinedAnswer.{JoinedAnswer}
 use Rattle.ps_model.specs.declared.JoinedAnswer.the-variants as joined-answer
 use Rattle.ps_model.proofs.Grammar.{packet-falls}
-use Rattle.ps_model.proofs.Shift.{byte-slice}
 use Rattle.ps_model.proofs.Read.{Told}
 
 -- ---- One packet more
 
-module _ (f : List ℕ) (at : ℕ) (k : List ℕ) where
-  pub packets-done : complete subpicture k ≡ true → packetsAt subpicture f at k ≡ ok []
+module _ (id : ℕ → Bool) (f : List ℕ) (at : ℕ) (k : List ℕ) where
+  pub packets-done : complete k ≡ true → packetsAt id f at k ≡ ok []
   unfolding packetsAt
   packets-done t =
-      list-step (standDone subpicture) (standPacket subpicture f) (standNext subpicture) (λ (s : Stand subpicture). length f - s .place) (packet-falls subpicture f) (stand subpicture at k)
+      list-step standDone (standPacket id f) standNext (λ (s : Stand). length f - s .place) (packet-falls id f) (stand at k)
       ∙ rw t
 
-  packets-open : complete subpicture k ≡ false → packetsAt subpicture f at k ≡ andThen (packetAt subpicture f at) (λ (p : Packet). consRes p (packetsAt subpicture f (p .end) (k ++ keptBytes (p .kept))))
+  packets-open : complete k ≡ false
+      → packetsAt id f at k ≡ andThen (packetAt id f at) (λ (p : Packet). consRes p (packetsAt id f (p .end) (k ++ keptBytes (p .kept))))
   unfolding packetsAt
   packets-open t =
-      list-step (standDone subpicture) (standPacket subpicture f) (standNext subpicture) (λ (s : Stand subpicture). length f - s .place) (packet-falls subpicture f) (stand subpicture at k)
+      list-step standDone (standPacket id f) standNext (λ (s : Stand). length f - s .place) (packet-falls id f) (stand at k)
       ∙ rw t
 
-  packets-refused : complete subpicture k ≡ false → (n : ℕ) → packetAt subpicture f at ≡ refuse n → packetsAt subpicture f at k ≡ refuse n
+  packets-refused : complete k ≡ false → (n : ℕ) → packetAt id f at ≡ refuse n → packetsAt id f at k ≡ refuse n
   packets-refused t n e = packets-open t ∙ rw e
 
   -- the packet at hand in front of those that follow
-  packets-more : complete subpicture k ≡ false → (a e : ℕ) (h : Told f at a e) → packetsAt subpicture f at k ≡ consRes (h .packet) (packetsAt subpicture f e (k ++ slice a e f))
+  packets-more : complete k ≡ false → (a e : ℕ) (h : Told id f at a e)
+      → packetsAt id f at k ≡ consRes (h .packet) (packetsAt id f e (k ++ slice a e f))
   packets-more t a e h = packets-open t ∙ rw (h .found, h .ends, h .keeps)
 
 -- ---- Bytes of what is joined
@@ -77,42 +79,45 @@ abbrev answerAfter : List ℕ → Res (List Packet) → JoinedAnswer
 answerAfter k (ok ps) = joined-answer.Holds (length (take (word (k ++ joined ps) 0) (k ++ joined ps)))
 answerAfter k (refuse n) = joined-answer.Refused n
 
-answer-cons : (k : List ℕ) (p : Packet) (r : Res (List Packet)) → answerAfter k (consRes p r) ≡ answerAfter (k ++ keptBytes (p .kept)) r
+answer-cons : (k : List ℕ) (p : Packet) (r : Res (List Packet))
+    → answerAfter k (consRes p r) ≡ answerAfter (k ++ keptBytes (p .kept)) r
 unfolding joined
 answer-cons k p (ok ps) = rw (append-assoc k (keptBytes (p .kept)) (joined ps))
 answer-cons k p (refuse n) = refl
 
 -- where measuring stands: what is kept, its length and its first two bytes, and the answer x from there on
-pub record Measuring (f : List ℕ) (x : JoinedAnswer) (at have first second : ℕ) : Type 0 where
+pub record Measuring (id : ℕ → Bool) (f : List ℕ) (x : JoinedAnswer) (at have first second : ℕ) : Type 0 where
   pub kept : List ℕ
   pub count : length kept ≡ have
   pub first-is : first ≡ byte kept 0
   pub second-is : second ≡ byte kept 1
   pub low : have ≤ at
-  pub short : complete subpicture kept ≡ false
-  pub same : x ≡ answerAfter kept (packetsAt subpicture f at kept)
+  pub short : complete kept ≡ false
+  pub same : x ≡ answerAfter kept (packetsAt id f at kept)
 
-pub measuring-starts : (f : List ℕ) (from : ℕ) → Measuring f (joinedGiven (packetsAt subpicture f from [])) from 0 0 0
+pub measuring-starts : (id : ℕ → Bool) (f : List ℕ) (from : ℕ)
+    → Measuring id f (joinedGiven (packetsAt id f from [])) from 0 0 0
 unfolding unitOf
-measuring-starts f from =
-    record { kept = []; count = refl; first-is = refl; second-is = refl; low = omega arith; short = refl; same = go (packetsAt subpicture f from []) }
+measuring-starts id f from =
+    record { kept = []; count = refl; first-is = refl; second-is = refl; low = omega arith; short = refl; same = go (packetsAt id f from []) }
   where
     go : (r : Res (List Packet)) → joinedGiven r ≡ answerAfter [] r
     go (ok ps) = refl
     go (refuse n) = refl
 
-module _ (f : List ℕ) (x : JoinedAnswer) (at have first second : ℕ) (i : Measuring f x at have first second) where
-  pub measuring-refused : (n : ℕ) → packetAt subpicture f at ≡ refuse n → joined-answer.Refused n ≡ x
-  measuring-refused n e = sym (i .same ∙ ap (answerAfter (i .kept)) (packets-refused f at (i .kept) (i .short) n e))
+module _ (id : ℕ → Bool) (f : List ℕ) (x : JoinedAnswer) (at have first second : ℕ) (i : Measuring id f x at have first second) where
+  pub measuring-refused : (n : ℕ) → packetAt id f at ≡ refuse n → joined-answer.Refused n ≡ x
+  measuring-refused n e = sym (i .same ∙ ap (answerAfter (i .kept)) (packets-refused id f at (i .kept) (i .short) n e))
 
-  next : (a e : ℕ) → Told f at a e → x ≡ answerAfter (i .kept ++ slice a e f) (packetsAt subpicture f e (i .kept ++ slice a e f))
+  next : (a e : ℕ) → Told id f at a e
+      → x ≡ answerAfter (i .kept ++ slice a e f) (packetsAt id f e (i .kept ++ slice a e f))
   next a e h =
       i .same
-      ∙ ap (answerAfter (i .kept)) (packets-more f at (i .kept) (i .short) a e h)
-      ∙ answer-cons (i .kept) (h .packet) (packetsAt subpicture f e (i .kept ++ slice a e f))
-      ∙ ap (λ (l : List ℕ). answerAfter (i .kept ++ l) (packetsAt subpicture f e (i .kept ++ slice a e f))) (h .keeps)
+      ∙ ap (answerAfter (i .kept)) (packets-more id f at (i .kept) (i .short) a e h)
+      ∙ answer-cons (i .kept) (h .packet) (packetsAt id f e (i .kept ++ slice a e f))
+      ∙ ap (λ (l : List ℕ). answerAfter (i .kept ++ l) (packetsAt id f e (i .kept ++ slice a e f))) (h .keeps)
 
-  pub measuring-passes : (e : ℕ) → Told f at e e → Measuring f x e have first second
+  pub measuring-passes : (e : ℕ) → Told id f at e e → Measuring id f x e have first second
   measuring-passes e h =
       let z : i .kept ++ slice e e f ≡ i .kept = ap (λ (l : List ℕ). i .kept ++ l) (slice-empty e f) ∙ append-nil (i .kept) in
       let l = h .after in
@@ -124,10 +129,10 @@ module _ (f : List ℕ) (x : JoinedAnswer) (at have first second : ℕ) (i : Mea
         second-is = i .second-is;
         low = omega arith;
         short = i .short;
-        same = next e e h ∙ ap (λ (k : List ℕ). answerAfter k (packetsAt subpicture f e k)) z;
+        same = next e e h ∙ ap (λ (k : List ℕ). answerAfter k (packetsAt id f e k)) z;
       }
 
-  module _ (a e : ℕ) (h : Told f at a e) (b c : ℕ)
+  module _ (a e : ℕ) (h : Told id f at a e) (b c : ℕ)
       (u : b ≡ cond (ltb 0 have) first (byte (slice a e f) (0 - have)))
       (v : c ≡ cond (ltb 1 have) second (byte (slice a e f) (1 - have))) where
     now-first : b ≡ byte (i .kept ++ slice a e f) 0
@@ -151,27 +156,28 @@ module _ (f : List ℕ) (x : JoinedAnswer) (at have first second : ℕ) (i : Mea
         let g = now-word in
         let two : 2 ≤ length s = omega arith in
         let fits : word s 0 ≤ length s = omega arith in
-        let d : complete subpicture s ≡ true = rw (le-leb 2 (length s) two, le-leb (word s 0) (length s) fits) in
+        let d : complete s ≡ true = rw (le-leb 2 (length s) two, le-leb (word s 0) (length s) fits) in
         sym (
         next a e h
-        ∙ ap (answerAfter s) (packets-done f e s d)
+        ∙ ap (answerAfter s) (packets-done id f e s d)
         ∙ ap (λ (y : List ℕ). joined-answer.Holds (length (take (word y 0) y))) (append-nil s)
         ∙ ap joined-answer.Holds (length-take-le (word s 0) s fits ∙ sym g ∙ sym w)
         )
 
-    goes : complete subpicture (i .kept ++ slice a e f) ≡ false → Measuring f x e (have + (e - a)) b c
+    goes : complete (i .kept ++ slice a e f) ≡ false → Measuring id f x e (have + (e - a)) b c
     goes d =
         let l = h .after in
         let m = i .low in
         let o = h .upto in
         record { kept = i .kept ++ slice a e f; count = now-count; first-is = now-first; second-is = now-second; low = omega arith; short = d; same = next a e h }
 
-    pub measuring-few : have + (e - a) < 2 → Measuring f x e (have + (e - a)) b c
+    pub measuring-few : have + (e - a) < 2 → Measuring id f x e (have + (e - a)) b c
     measuring-few k =
         let l : length (i .kept ++ slice a e f) < 2 = omega (arith, now-count) in
         goes (rw (lt-leb 2 (length (i .kept ++ slice a e f)) l))
 
-    pub measuring-more : 2 ≤ have + (e - a) → (t : ℕ) → t ≡ b * 256 + c → have + (e - a) < t → Measuring f x e (have + (e - a)) b c
+    pub measuring-more : 2 ≤ have + (e - a) → (t : ℕ) → t ≡ b * 256 + c → have + (e - a) < t
+        → Measuring id f x e (have + (e - a)) b c
     measuring-more k t w g =
         let m = now-count in
         let n = now-word in
@@ -192,22 +198,22 @@ module _ (f : List ℕ) (a m : ℕ) (h : a + m ≤ length f) where
 -- ---- Joining in scratch
 
 -- the packets from `at` on, with what was kept before them: together all that is kept
-pub record Left (f all : List ℕ) (at have : ℕ) : Type 0 where
+pub record Left (id : ℕ → Bool) (f all : List ℕ) (at have : ℕ) : Type 0 where
   pub kept : List ℕ
   pub count : length kept ≡ have
   pub list : List Packet
-  pub listed : packetsAt subpicture f at kept ≡ ok list
+  pub listed : packetsAt id f at kept ≡ ok list
   pub whole : kept ++ joined list ≡ all
 
 -- where joining stands: of t bytes `have` are in scratch
-pub record Joining (f all : List ℕ) (t : ℕ) (s₀ s : List ℕ) (at have : ℕ) : Type 0 where
+pub record Joining (id : ℕ → Bool) (f all : List ℕ) (t : ℕ) (s₀ s : List ℕ) (at have : ℕ) : Type 0 where
   pub upto : have ≤ t
   pub held : s ≡ sets s₀ 0 (take have all)
   pub size : length s ≡ length s₀
-  pub rest : have < t → Left f all at have
+  pub rest : have < t → Left id f all at have
 
-module _ (f : List ℕ) (from : ℕ) (ps : List Packet) (h : packetsAt subpicture f from [] ≡ ok ps) where
-  pub joining-starts : (t : ℕ) (s₀ : List ℕ) → Joining f (joined ps) t s₀ s₀ from 0
+module _ (id : ℕ → Bool) (f : List ℕ) (from : ℕ) (ps : List Packet) (h : packetsAt id f from [] ≡ ok ps) where
+  pub joining-starts : (t : ℕ) (s₀ : List ℕ) → Joining id f (joined ps) t s₀ s₀ from 0
   joining-starts t s₀ = record { upto = omega arith; held = refl; size = refl; rest = λ l. record { kept = []; count = refl; list = ps; listed = h; whole = refl } }
 
   -- the unit's length is no more than what is kept
@@ -215,7 +221,8 @@ module _ (f : List ℕ) (from : ℕ) (ps : List Packet) (h : packetsAt subpictur
   unfolding unitOf
   unit-within = rw (length-take (word (joined ps) 0) (joined ps)) (omega arith)
 
-  pub joining-ends : (t : ℕ) (s₀ s : List ℕ) (at have : ℕ) → t ≡ length (unitOf (packets ps)) → Joining f (joined ps) t s₀ s at have → t ≤ have → s ≡ sets s₀ 0 (unitOf (packets ps))
+  pub joining-ends : (t : ℕ) (s₀ s : List ℕ) (at have : ℕ) → t ≡ length (unitOf (packets ps))
+      → Joining id f (joined ps) t s₀ s at have → t ≤ have → s ≡ sets s₀ 0 (unitOf (packets ps))
   unfolding unitOf
   joining-ends t s₀ s at have e j l =
       let u = j .upto in
@@ -233,25 +240,25 @@ module _ (f : List ℕ) (from : ℕ) (ps : List Packet) (h : packetsAt subpictur
           long : leb n (length l) ≡ false → take (min n (length l)) l ≡ take n l
           long t = let h : length l < n = omega (arith, leb-false n (length l) t) in let q : min n (length l) ≡ length l = omega arith in rw q (take-all (length l) l (omega arith) ∙ sym (take-all n l (omega arith)))
 
-module _ (f all : List ℕ) (t : ℕ) (within : t ≤ length all) (s₀ s : List ℕ) (at have : ℕ) (j : Joining f all t s₀ s at have) (l : have < t) where
-  still : complete subpicture (j .rest l .kept) ≡ false
+module _ (id : ℕ → Bool) (f all : List ℕ) (t : ℕ) (within : t ≤ length all) (s₀ s : List ℕ) (at have : ℕ) (j : Joining id f all t s₀ s at have) (l : have < t) where
+  still : complete (j .rest l .kept) ≡ false
   unfolding joined
-  still = ⊎-elim done (λ x. x) (either (complete subpicture (j .rest l .kept)))
+  still = ⊎-elim done (λ x. x) (either (complete (j .rest l .kept)))
     where
-      done : complete subpicture (j .rest l .kept) ≡ true → complete subpicture (j .rest l .kept) ≡ false
+      done : complete (j .rest l .kept) ≡ true → complete (j .rest l .kept) ≡ false
       done d =
           let r = j .rest l in
-          let e : [] ≡ r .list = ok-injective (sym (packets-done f at (r .kept) d) ∙ r .listed) in
+          let e : [] ≡ r .list = ok-injective (sym (packets-done id f at (r .kept) d) ∙ r .listed) in
           let w : r .kept ++ joined [] ≡ all = ap (λ (p : List Packet). r .kept ++ joined p) e ∙ r .whole in
           let n : length all ≡ have = ap length (sym w ∙ append-nil (r .kept)) ∙ r .count in
           absurd (omega arith)
 
-  pub joining-refused : (n : ℕ) → packetAt subpicture f at ≡ refuse n → ⊥
-  joining-refused n e = ok-not-refuse (sym (packets-refused f at (j .rest l .kept) still n e) ∙ j .rest l .listed)
+  pub joining-refused : (n : ℕ) → packetAt id f at ≡ refuse n → ⊥
+  joining-refused n e = ok-not-refuse (sym (packets-refused id f at (j .rest l .kept) still n e) ∙ j .rest l .listed)
 
-  module _ (a e : ℕ) (h : Told f at a e) where
-    tail : (r : List Packet) × (packetsAt subpicture f e (j .rest l .kept ++ slice a e f) ≡ ok r) × (h .packet ∷ r ≡ j .rest l .list)
-    tail = consRes-ok (h .packet) (packetsAt subpicture f e (j .rest l .kept ++ slice a e f)) (sym (packets-more f at (j .rest l .kept) still a e h) ∙ j .rest l .listed)
+  module _ (a e : ℕ) (h : Told id f at a e) where
+    tail : (r : List Packet) × (packetsAt id f e (j .rest l .kept ++ slice a e f) ≡ ok r) × (h .packet ∷ r ≡ j .rest l .list)
+    tail = consRes-ok (h .packet) (packetsAt id f e (j .rest l .kept ++ slice a e f)) (sym (packets-more id f at (j .rest l .kept) still a e h) ∙ j .rest l .listed)
 
     all-is : j .rest l .kept ++ (slice a e f ++ joined (tail .0)) ≡ all
     unfolding joined
@@ -260,7 +267,7 @@ module _ (f all : List ℕ) (t : ℕ) (within : t ≤ length all) (s₀ s : List
         ∙ ap (λ (p : List Packet). j .rest l .kept ++ joined p) (tail .2)
         ∙ j .rest l .whole
 
-    left : Left f all e (have + (e - a))
+    left : Left id f all e (have + (e - a))
     left =
         record {
           kept = j .rest l .kept ++ slice a e f;
@@ -270,9 +277,9 @@ module _ (f all : List ℕ) (t : ℕ) (within : t ≤ length all) (s₀ s : List
           whole = append-assoc (j .rest l .kept) (slice a e f) (joined (tail .0)) ∙ all-is;
         }
 
-    pub joining-passes : a ≡ e → Joining f all t s₀ s e have
+    pub joining-passes : a ≡ e → Joining id f all t s₀ s e have
     joining-passes q =
-        record { upto = j .upto; held = j .held; size = j .size; rest = λ k. let z : have + (e - a) ≡ have = omega arith in subst (Left f all e) z left }
+        record { upto = j .upto; held = j .held; size = j .size; rest = λ k. let z : have + (e - a) ≡ have = omega arith in subst (Left id f all e) z left }
 
     module _ (m : ℕ) (q : m ≡ min (e - a) (t - have)) where
       front : take (have + m) all ≡ take have all ++ take m (drop a f)
@@ -288,7 +295,7 @@ module _ (f all : List ℕ) (t : ℕ) (within : t ≤ length all) (s₀ s : List
           ∙ ap (λ (w : List ℕ). k ++ w) (take-append-le m (slice a e f) (joined (tail .0)) y ∙ ap (take m) (sym (part-slice a e f)) ∙ take-take m (e - a) (drop a f) (omega arith))
           ∙ ap (λ (w : List ℕ). w ++ take m (drop a f)) (sym (ap (take have) (sym all-is) ∙ take-at k x have c))
 
-      pub joining-goes : (d : List ℕ) → d ≡ sets s have (take m (drop a f)) → Joining f all t s₀ d e (have + m)
+      pub joining-goes : (d : List ℕ) → d ≡ sets s have (take m (drop a f)) → Joining id f all t s₀ d e (have + m)
       joining-goes d w =
           let u : length (take have all) ≡ have = length-take-le have all (omega arith) in
           let v : 0 + length (take have all) ≡ have = omega arith in
@@ -302,5 +309,5 @@ module _ (f all : List ℕ) (t : ℕ) (within : t ≤ length all) (s₀ s : List
             upto = omega arith;
             held = x;
             size = ap length x ∙ length-sets s₀ 0 (take (have + m) all);
-            rest = λ k. let z : have + (e - a) ≡ have + m = omega arith in subst (Left f all e) z left;
+            rest = λ k. let z : have + (e - a) ≡ have + m = omega arith in subst (Left id f all e) z left;
           }

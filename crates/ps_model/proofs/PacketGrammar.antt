@@ -1,5 +1,5 @@
 -- The body and the packet that are found are the ones that the grammar has there. Assumes nothing.
-use Prim.Native.Nat.{ℕ, zero, suc, _+_, _-_, _*_, _/_, _%_, _≤_, _<_}
+use Prim.Native.Nat.{ℕ, zero, suc, _+_, _*_, _/_, _%_, _≤_, _<_}
 use native.Mathlib.Nat.{add-zero}
 use native.Mathlib.Omega.{arith}
 use mathlib.Core.Path.{_≡_, refl, sym, ap, _∙_, subst}
@@ -143,7 +143,7 @@ module _ (id : ℕ → Bool) (f : List ℕ) where
     coded : q .code ≡ byte f (q .place + 3)
     kind : Kind q
 
-  pack-sound : (p : ℕ) (q : Packet) → byte f (p + 3) ≡ 0xBA → packAt id f p ≡ ok q → Kinded p q
+  pack-sound : (p : ℕ) (q : Packet) → byte f (p + 3) ≡ 0xBA → packAt f p ≡ ok q → Kinded p q
   unfolding packAt
   pack-sound p q c e = ⊎-elim two one (either (eqb (byte f (p + 4) / 64) 1))
     where
@@ -192,7 +192,7 @@ module _ (id : ℕ → Bool) (f : List ℕ) where
   unfolding kindAt packAt privateAt
   kind-complete q c (inl h) = rw (eq-eqb (byte f (q .place + 3)) 0xBA (sym c ∙ h .0)) (form (h .2))
     where
-      form : ((byte f (q .place + 4) / 64 ≡ 1) × (q .end ≡ q .place + 14 + byte f (q .place + 13) % 8)) ⊎ ((byte f (q .place + 4) / 16 ≡ 2) × (q .end ≡ q .place + 12)) → packAt id f (q .place) ≡ ok q
+      form : ((byte f (q .place + 4) / 64 ≡ 1) × (q .end ≡ q .place + 14 + byte f (q .place + 13) % 8)) ⊎ ((byte f (q .place + 4) / 16 ≡ 2) × (q .end ≡ q .place + 12)) → packAt f (q .place) ≡ ok q
       form (inl x) = rw (eq-eqb (byte f (q .place + 4) / 64) 1 (x .0)) (made-is q _ none c (x .1) (h .1))
       form (inr x) =
           let y = x .0 in
@@ -205,11 +205,6 @@ module _ (id : ℕ → Bool) (f : List ℕ) where
   kind-complete q c (inr (inr h)) =
       rw (ne-eqb (byte f (q .place + 3)) 0xBA (λ z. h .not-pack (c ∙ z)), ne-eqb (byte f (q .place + 3)) 0xBD (λ z. h .not-private (c ∙ z)), ne-eqb (byte f (q .place + 3)) 0xB9 (λ z. h .not-end (c ∙ z)))
       (made-is q _ none c (h .end-is) (h .keeps-nothing))
-
-  kind-longer : (q : Packet) → Kind q → q .place + 6 ≤ q .end
-  kind-longer q (inl h) = ⊎-elim (λ x. let y = x .1 in omega arith) (λ x. let y = x .1 in omega arith) (h .2)
-  kind-longer q (inr (inl h)) = let y = h .end-is in omega arith
-  kind-longer q (inr (inr h)) = let y = h .end-is in omega arith
 
   pub packet-sound : (p : ℕ) (q : Packet) → packetAt id f p ≡ ok q → (q .place ≡ p) × IsPacket id f q
   unfolding packetAt
@@ -232,9 +227,6 @@ module _ (id : ℕ → Bool) (f : List ℕ) where
           kind = r .kind;
         },
       )
-
-  pub packet-longer : (q : Packet) → IsPacket id f q → q .place + 6 ≤ q .end
-  packet-longer q h = kind-longer q (h .kind)
 
   pub packet-complete : (q : Packet) → IsPacket id f q → packetAt id f (q .place) ≡ ok q
   unfolding packetAt

@@ -13,66 +13,105 @@ use borrow.Author.Tests.{eq-eqb, ne-eqb, le-leb, lt-leb, lt-ltb, le-ltb, eqb-tru
 use Rattle.outcome.specs.Outcome.{Res, ok, refuse, check, mapRes, no-unit}
 use Rattle.outcome.proofs.Laws.{ok-not-refuse, and-true, check-refuse, andThen-refuse, mapRes-refuse, either, not-so}
 use Rattle.grammar.specs.Bytes.{byte}
-use Rattle.grammar.specs.Packets.{Part, Packet, lengthEnd, Keeps, IsPack, IsPrivate, IsOther, IsPacket, keptBytes, subpicture}
+use Rattle.grammar.specs.Packets.{Part, Packet, lengthEnd, Keeps, IsPack, IsPrivate, IsOther, IsPacket, keptBytes}
+use Rattle.grammar.proofs.PacketParts.{byte-slice, body-after, packet-longer}
 use Rattle.ps_model.specs.OnePacket.{bodyAt, packet, keptAt, packAt, privateAt, kindAt, packetAt}
 use Rattle.ps_model.specs.PacketAnswers.{bodyRest, bodyFound, packetGiven, wholeGiven, keptGiven}
 use Rattle.ps_model.specs.declared.PacketAnswer.{PacketAnswer}
 use Rattle.ps_model.specs.declared.PacketAnswer.the-variants as packet-answer
-use Rattle.ps_model.proofs.PacketGrammar.{packet-sound, packet-longer, body-iff}
-use Rattle.ps_model.proofs.Shift.{body-after, body-refuses, body-file, byte-slice}
+use Rattle.ps_model.proofs.PacketGrammar.{packet-sound, body-iff}
+use Rattle.ps_model.proofs.Shift.{body-refuses, body-file}
 
--- ---- Packets that are refused
+-- ---- Start codes and pack headers
 
 module _ (f : List ℕ) (p : ℕ) where
-  kind-refuses : (n : ℕ) → kindAt subpicture f p ≡ refuse n → n ≡ no-unit
-  unfolding kindAt packAt privateAt
-  kind-refuses n q = ⊎-elim pack (λ t. more t (either (eqb (byte f (p + 3)) 0xBD))) (either (eqb (byte f (p + 3)) 0xBA))
-    where
-      pack : eqb (byte f (p + 3)) 0xBA ≡ true → n ≡ no-unit
-      pack t = go (eqb (byte f (p + 4) / 64) 1) (rw t at q)
-        where
-          go : (v : Bool) → cond v (ok (packet f p (p + 14 + byte f (p + 13) % 8) none)) (check (eqb (byte f (p + 4) / 16) 2) no-unit (ok (packet f p (p + 12) none))) ≡ refuse n → n ≡ no-unit
-          go true g = ok-not-refuse (sym g)
-          go false g = ⊎-elim (λ z. z) (λ z. ok-not-refuse (sym z)) (check-refuse (eqb (byte f (p + 4) / 16) 2) no-unit (ok (packet f p (p + 12) none)) g)
-
-      more : eqb (byte f (p + 3)) 0xBA ≡ false → (eqb (byte f (p + 3)) 0xBD ≡ true) ⊎ (eqb (byte f (p + 3)) 0xBD ≡ false) → n ≡ no-unit
-      more t (inl s) =
-          body-refuses f (p + 6) (lengthEnd f p) n (mapRes-refuse (λ (b : ℕ). packet f p (lengthEnd f p) (keptAt subpicture f b (lengthEnd f p))) (bodyAt f (p + 6) (lengthEnd f p)) (rw (t, s) at q))
-      more t (inr s) = go (eqb (byte f (p + 3)) 0xB9) (rw (t, s) at q)
-        where
-          go : (v : Bool) → cond v (refuse no-unit) (ok (packet f p (lengthEnd f p) none)) ≡ refuse n → n ≡ no-unit
-          go true g = let z : no-unit ≡ n = cc in sym z
-          go false g = ok-not-refuse (sym g)
-
-  pub packet-refuses : (n : ℕ) → packetAt subpicture f p ≡ refuse n → n ≡ no-unit
-  unfolding packetAt
-  packet-refuses n q =
-      ⊎-elim (λ x. x)
-      (λ x.
-      ⊎-elim (kind-refuses n) (λ y. ⊎-elim (λ z. z) (λ z. ok-not-refuse (sym z)) (check-refuse (leb (y .0 .end) (length f)) no-unit (ok (y .0)) (y .2)))
-      (andThen-refuse (kindAt subpicture f p) (λ (x : Packet). check (leb (x .end) (length f)) no-unit (ok x)) x))
-      (check-refuse (eqb (byte f p) 0 && eqb (byte f (p + 1)) 0 && eqb (byte f (p + 2)) 1) no-unit _ q)
-
-  -- no packet fits where six bytes do not
-  pub packet-short : length f < p + 6 → packet-answer.Refused no-unit ≡ packetGiven (packetAt subpicture f p)
-  packet-short h = go (packetAt subpicture f p) refl
-    where
-      go : (r : Res Packet) → packetAt subpicture f p ≡ r → packet-answer.Refused no-unit ≡ packetGiven r
-      go (ok q) e =
-          let x = packet-sound subpicture f p q e in
-          let l = packet-longer subpicture f q (x .1) in
-          let i = x .1 .inside in
-          let z = x .0 in
-          absurd (omega arith)
-      go (refuse n) e = ap packet-answer.Refused (sym (packet-refuses n e))
-
   -- packet_start_code_prefix
   pub record Prefixed : Type 0 where
     pub at-0 : byte f p ≡ 0
     pub at-1 : byte f (p + 1) ≡ 0
     pub at-2 : byte f (p + 2) ≡ 1
 
-  pub packet-unprefixed : (Prefixed → ⊥) → packet-answer.Refused no-unit ≡ packetGiven (packetAt subpicture f p)
+  pub whole-yes : (s : ℕ) → p + s ≤ length f
+      → packet-answer.Passes (p + s) ≡ wholeGiven (length f) (ok (packet f p (p + s) none))
+  whole-yes s h = rw (le-leb (p + s) (length f) h)
+
+  pub whole-no : (s : ℕ) → length f < p + s
+      → packet-answer.Refused no-unit ≡ wholeGiven (length f) (ok (packet f p (p + s) none))
+  whole-no s h = rw (lt-leb (p + s) (length f) h)
+
+  module _ (t : byte f (p + 4) / 64 ≡ 1) where
+    pub pack-cut : length f < p + 14 → packet-answer.Refused no-unit ≡ wholeGiven (length f) (packAt f p)
+    unfolding packAt
+    pack-cut h =
+        let l : length f < p + 14 + byte f (p + 13) % 8 = omega arith in
+        rw (eq-eqb (byte f (p + 4) / 64) 1 t, lt-leb (p + 14 + byte f (p + 13) % 8) (length f) l)
+
+    pub pack-newer : (s : ℕ) → s ≡ 14 + byte f (p + 13) % 8
+        → wholeGiven (length f) (ok (packet f p (p + s) none)) ≡ wholeGiven (length f) (packAt f p)
+    unfolding packAt
+    pack-newer s e =
+        let z : p + s ≡ p + 14 + byte f (p + 13) % 8 = omega arith in
+        rw (eq-eqb (byte f (p + 4) / 64) 1 t, z)
+
+  module _ (t : byte f (p + 4) / 64 ≡ 1 → ⊥) where
+    pub pack-older : byte f (p + 4) / 16 ≡ 2
+        → wholeGiven (length f) (ok (packet f p (p + 12) none)) ≡ wholeGiven (length f) (packAt f p)
+    unfolding packAt
+    pack-older u = rw (ne-eqb (byte f (p + 4) / 64) 1 t, eq-eqb (byte f (p + 4) / 16) 2 u)
+
+    pub pack-none : (byte f (p + 4) / 16 ≡ 2 → ⊥) → packet-answer.Refused no-unit ≡ wholeGiven (length f) (packAt f p)
+    unfolding packAt
+    pack-none u = rw (ne-eqb (byte f (p + 4) / 64) 1 t, ne-eqb (byte f (p + 4) / 16) 2 u)
+
+-- ---- Packets that are refused
+
+module _ (id : ℕ → Bool) (f : List ℕ) (p : ℕ) where
+  kind-refuses : (n : ℕ) → kindAt id f p ≡ refuse n → n ≡ no-unit
+  unfolding kindAt packAt privateAt
+  kind-refuses n q = ⊎-elim pack (λ t. more t (either (eqb (byte f (p + 3)) 0xBD))) (either (eqb (byte f (p + 3)) 0xBA))
+    where
+      pack : eqb (byte f (p + 3)) 0xBA ≡ true → n ≡ no-unit
+      pack t = go (eqb (byte f (p + 4) / 64) 1) (rw t at q)
+        where
+          go : (v : Bool)
+              → cond v (ok (packet f p (p + 14 + byte f (p + 13) % 8) none)) (check (eqb (byte f (p + 4) / 16) 2) no-unit (ok (packet f p (p + 12) none))) ≡ refuse n
+              → n ≡ no-unit
+          go true g = ok-not-refuse (sym g)
+          go false g = ⊎-elim (λ z. z) (λ z. ok-not-refuse (sym z)) (check-refuse (eqb (byte f (p + 4) / 16) 2) no-unit (ok (packet f p (p + 12) none)) g)
+
+      more : eqb (byte f (p + 3)) 0xBA ≡ false
+          → (eqb (byte f (p + 3)) 0xBD ≡ true) ⊎ (eqb (byte f (p + 3)) 0xBD ≡ false) → n ≡ no-unit
+      more t (inl s) =
+          body-refuses f (p + 6) (lengthEnd f p) n (mapRes-refuse (λ (b : ℕ). packet f p (lengthEnd f p) (keptAt id f b (lengthEnd f p))) (bodyAt f (p + 6) (lengthEnd f p)) (rw (t, s) at q))
+      more t (inr s) = go (eqb (byte f (p + 3)) 0xB9) (rw (t, s) at q)
+        where
+          go : (v : Bool) → cond v (refuse no-unit) (ok (packet f p (lengthEnd f p) none)) ≡ refuse n → n ≡ no-unit
+          go true g = let z : no-unit ≡ n = cc in sym z
+          go false g = ok-not-refuse (sym g)
+
+  pub packet-refuses : (n : ℕ) → packetAt id f p ≡ refuse n → n ≡ no-unit
+  unfolding packetAt
+  packet-refuses n q =
+      ⊎-elim (λ x. x)
+      (λ x.
+      ⊎-elim (kind-refuses n) (λ y. ⊎-elim (λ z. z) (λ z. ok-not-refuse (sym z)) (check-refuse (leb (y .0 .end) (length f)) no-unit (ok (y .0)) (y .2)))
+      (andThen-refuse (kindAt id f p) (λ (x : Packet). check (leb (x .end) (length f)) no-unit (ok x)) x))
+      (check-refuse (eqb (byte f p) 0 && eqb (byte f (p + 1)) 0 && eqb (byte f (p + 2)) 1) no-unit _ q)
+
+  -- no packet fits where six bytes do not
+  pub packet-short : length f < p + 6 → packet-answer.Refused no-unit ≡ packetGiven (packetAt id f p)
+  packet-short h = go (packetAt id f p) refl
+    where
+      go : (r : Res Packet) → packetAt id f p ≡ r → packet-answer.Refused no-unit ≡ packetGiven r
+      go (ok q) e =
+          let x = packet-sound id f p q e in
+          let l = packet-longer id f q (x .1) in
+          let i = x .1 .inside in
+          let z = x .0 in
+          absurd (omega arith)
+      go (refuse n) e = ap packet-answer.Refused (sym (packet-refuses n e))
+
+  pub packet-unprefixed : (Prefixed f p → ⊥) → packet-answer.Refused no-unit ≡ packetGiven (packetAt id f p)
   unfolding packetAt
   packet-unprefixed h =
       let t : (eqb (byte f p) 0 && eqb (byte f (p + 1)) 0 && eqb (byte f (p + 2)) 1) ≡ false =
@@ -83,68 +122,39 @@ module _ (f : List ℕ) (p : ℕ) where
       h (record { at-0 = eqb-true _ _ (b .0); at-1 = eqb-true _ _ (b .1); at-2 = eqb-true _ _ (a .1) })) in
       rw t
 
-  module _ (h : Prefixed) where
-    pub packet-kind : wholeGiven (length f) (kindAt subpicture f p) ≡ packetGiven (packetAt subpicture f p)
+  module _ (h : Prefixed f p) where
+    pub packet-kind : wholeGiven (length f) (kindAt id f p) ≡ packetGiven (packetAt id f p)
     unfolding packetAt
     packet-kind = rw (eq-eqb (byte f p) 0 (h .at-0), eq-eqb (byte f (p + 1)) 0 (h .at-1), eq-eqb (byte f (p + 2)) 1 (h .at-2))
 
-    pub packet-pack : byte f (p + 3) ≡ 0xBA → wholeGiven (length f) (packAt subpicture f p) ≡ packetGiven (packetAt subpicture f p)
+    pub packet-pack : byte f (p + 3) ≡ 0xBA → wholeGiven (length f) (packAt f p) ≡ packetGiven (packetAt id f p)
     unfolding kindAt
     packet-pack c = rw (← packet-kind, eq-eqb (byte f (p + 3)) 0xBA c)
 
     module _ (c : byte f (p + 3) ≡ 0xBA → ⊥) where
-      pub packet-private : byte f (p + 3) ≡ 0xBD → wholeGiven (length f) (privateAt subpicture f p) ≡ packetGiven (packetAt subpicture f p)
+      pub packet-private : byte f (p + 3) ≡ 0xBD
+          → wholeGiven (length f) (privateAt id f p) ≡ packetGiven (packetAt id f p)
       unfolding kindAt
       packet-private d = rw (← packet-kind, ne-eqb (byte f (p + 3)) 0xBA c, eq-eqb (byte f (p + 3)) 0xBD d)
 
       module _ (d : byte f (p + 3) ≡ 0xBD → ⊥) where
-        pub packet-ending : byte f (p + 3) ≡ 0xB9 → packet-answer.Refused no-unit ≡ packetGiven (packetAt subpicture f p)
+        pub packet-ending : byte f (p + 3) ≡ 0xB9 → packet-answer.Refused no-unit ≡ packetGiven (packetAt id f p)
         unfolding kindAt
         packet-ending e = rw (← packet-kind, ne-eqb (byte f (p + 3)) 0xBA c, ne-eqb (byte f (p + 3)) 0xBD d, eq-eqb (byte f (p + 3)) 0xB9 e)
 
-        pub packet-other : (byte f (p + 3) ≡ 0xB9 → ⊥) → (s : ℕ) → p + s ≡ lengthEnd f p → wholeGiven (length f) (ok (packet f p (p + s) none)) ≡ packetGiven (packetAt subpicture f p)
+        pub packet-other : (byte f (p + 3) ≡ 0xB9 → ⊥) → (s : ℕ) → p + s ≡ lengthEnd f p
+            → wholeGiven (length f) (ok (packet f p (p + s) none)) ≡ packetGiven (packetAt id f p)
         unfolding kindAt
         packet-other e s q = rw (← packet-kind, ne-eqb (byte f (p + 3)) 0xBA c, ne-eqb (byte f (p + 3)) 0xBD d, ne-eqb (byte f (p + 3)) 0xB9 e, q)
 
-  -- ---- A packet that keeps nothing
-
-  pub whole-yes : (s : ℕ) → p + s ≤ length f → packet-answer.Passes (p + s) ≡ wholeGiven (length f) (ok (packet f p (p + s) none))
-  whole-yes s h = rw (le-leb (p + s) (length f) h)
-
-  pub whole-no : (s : ℕ) → length f < p + s → packet-answer.Refused no-unit ≡ wholeGiven (length f) (ok (packet f p (p + s) none))
-  whole-no s h = rw (lt-leb (p + s) (length f) h)
-
-  -- ---- Pack headers
-
-  module _ (t : byte f (p + 4) / 64 ≡ 1) where
-    pub pack-cut : length f < p + 14 → packet-answer.Refused no-unit ≡ wholeGiven (length f) (packAt subpicture f p)
-    unfolding packAt
-    pack-cut h =
-        let l : length f < p + 14 + byte f (p + 13) % 8 = omega arith in
-        rw (eq-eqb (byte f (p + 4) / 64) 1 t, lt-leb (p + 14 + byte f (p + 13) % 8) (length f) l)
-
-    pub pack-newer : (s : ℕ) → s ≡ 14 + byte f (p + 13) % 8 → wholeGiven (length f) (ok (packet f p (p + s) none)) ≡ wholeGiven (length f) (packAt subpicture f p)
-    unfolding packAt
-    pack-newer s e =
-        let z : p + s ≡ p + 14 + byte f (p + 13) % 8 = omega arith in
-        rw (eq-eqb (byte f (p + 4) / 64) 1 t, z)
-
-  module _ (t : byte f (p + 4) / 64 ≡ 1 → ⊥) where
-    pub pack-older : byte f (p + 4) / 16 ≡ 2 → wholeGiven (length f) (ok (packet f p (p + 12) none)) ≡ wholeGiven (length f) (packAt subpicture f p)
-    unfolding packAt
-    pack-older u = rw (ne-eqb (byte f (p + 4) / 64) 1 t, eq-eqb (byte f (p + 4) / 16) 2 u)
-
-    pub pack-none : (byte f (p + 4) / 16 ≡ 2 → ⊥) → packet-answer.Refused no-unit ≡ wholeGiven (length f) (packAt subpicture f p)
-    unfolding packAt
-    pack-none u = rw (ne-eqb (byte f (p + 4) / 64) 1 t, ne-eqb (byte f (p + 4) / 16) 2 u)
-
   -- ---- private_stream_1
 
-  pub private-cut : length f < lengthEnd f p → packet-answer.Refused no-unit ≡ wholeGiven (length f) (privateAt subpicture f p)
+  pub private-cut : length f < lengthEnd f p → packet-answer.Refused no-unit ≡ wholeGiven (length f) (privateAt id f p)
   unfolding privateAt
   private-cut h = go (bodyAt f (p + 6) (lengthEnd f p)) refl
     where
-      go : (r : Res ℕ) → bodyAt f (p + 6) (lengthEnd f p) ≡ r → packet-answer.Refused no-unit ≡ wholeGiven (length f) (mapRes (λ (b : ℕ). packet f p (lengthEnd f p) (keptAt subpicture f b (lengthEnd f p))) r)
+      go : (r : Res ℕ) → bodyAt f (p + 6) (lengthEnd f p) ≡ r
+          → packet-answer.Refused no-unit ≡ wholeGiven (length f) (mapRes (λ (b : ℕ). packet f p (lengthEnd f p) (keptAt id f b (lengthEnd f p))) r)
       go (ok b) q = rw (lt-leb (lengthEnd f p) (length f) h)
       go (refuse n) q = ap packet-answer.Refused (sym (body-refuses f (p + 6) (lengthEnd f p) n q))
 
@@ -181,18 +191,20 @@ module _ (f : List ℕ) (p : ℕ) where
                 head = λ m. ap (λ (d : List ℕ). byte d 0) w ∙ getD-drop c s 0 0 ∙ ap (byte s) k ∙ ap (λ (d : List ℕ). byte d c) o ∙ byte-slice f (p + 6) e c (omega arith);
               }
 
-      pub private-none : t ≡ false → packet-answer.Refused no-unit ≡ wholeGiven (length f) (privateAt subpicture f p)
+      pub private-none : t ≡ false → packet-answer.Refused no-unit ≡ wholeGiven (length f) (privateAt id f p)
       unfolding privateAt
       private-none y = go (bodyAt s 0 (length s)) refl (sym y ∙ r)
         where
-          go : (u : Res ℕ) → bodyAt s 0 (length s) ≡ u → false ≡ bodyFound u → packet-answer.Refused no-unit ≡ wholeGiven (length f) (privateAt subpicture f p)
+          go : (u : Res ℕ) → bodyAt s 0 (length s) ≡ u → false ≡ bodyFound u
+              → packet-answer.Refused no-unit ≡ wholeGiven (length f) (privateAt id f p)
           go (ok c) v w = let y : _≡_ {A = ℕ} 0 1 = cc in absurd (omega arith)
           go (refuse n) v w =
               let g : bodyAt f (p + 6) (lengthEnd f p) ≡ refuse n = ap (bodyAt f (p + 6)) (sym x) ∙ placed ∙ ap (mapRes (λ (c : ℕ). p + 6 + c)) v in
               rw g (ap packet-answer.Refused (sym (body-refuses f (p + 6) (lengthEnd f p) n g)))
 
       -- what the body keeps is what the packet keeps
-      shown : (k : Bodied) → packetGiven (ok (packet f p e (keptAt subpicture f (k .start) e))) ≡ wholeGiven (length f) (privateAt subpicture f p)
+      shown : (k : Bodied)
+          → packetGiven (ok (packet f p e (keptAt id f (k .start) e))) ≡ wholeGiven (length f) (privateAt id f p)
       unfolding privateAt
       shown k =
           let g : bodyAt f (p + 6) (lengthEnd f p) ≡ ok (k .start) = ap (bodyAt f (p + 6)) (sym x) ∙ k .found in
@@ -202,7 +214,7 @@ module _ (f : List ℕ) (p : ℕ) where
         pub private-fits : length b ≤ e
         private-fits = let g = bodied y .reach in omega arith
 
-        pub private-empty : length b ≡ 0 → packet-answer.Passes e ≡ wholeGiven (length f) (privateAt subpicture f p)
+        pub private-empty : length b ≡ 0 → packet-answer.Passes e ≡ wholeGiven (length f) (privateAt id f p)
         unfolding keptAt
         private-empty z =
             let k = bodied y in
@@ -211,64 +223,70 @@ module _ (f : List ℕ) (p : ℕ) where
             rw (← shown k, le-ltb (k .start) e l)
 
         module _ (z : 0 < length b) where
-          pub private-other : subpicture (byte b 0) ≡ false → packet-answer.Passes e ≡ wholeGiven (length f) (privateAt subpicture f p)
+          pub private-other : id (byte b 0) ≡ false → packet-answer.Passes e ≡ wholeGiven (length f) (privateAt id f p)
           unfolding keptAt
           private-other d =
               let k = bodied y in
               let g = k .reach in
               let l : k .start < e = omega arith in
-              let u : subpicture (byte f (k .start)) ≡ false = ap subpicture (sym (k .head z)) ∙ d in
+              let u : id (byte f (k .start)) ≡ false = ap id (sym (k .head z)) ∙ d in
               rw (← shown k, lt-ltb (k .start) e l, u)
 
-          pub private-keeps : subpicture (byte b 0) ≡ true → packet-answer.Keeps (e - (length b - 1)) e ≡ wholeGiven (length f) (privateAt subpicture f p)
+          pub private-keeps : id (byte b 0) ≡ true
+              → packet-answer.Keeps (e - (length b - 1)) e ≡ wholeGiven (length f) (privateAt id f p)
           unfolding keptAt
           private-keeps d =
               let k = bodied y in
               let g = k .reach in
               let l : k .start < e = omega arith in
-              let u : subpicture (byte f (k .start)) ≡ true = ap subpicture (sym (k .head z)) ∙ d in
+              let u : id (byte f (k .start)) ≡ true = ap id (sym (k .head z)) ∙ d in
               let w : e - (length b - 1) ≡ k .start + 1 = omega arith in
               rw (← shown k, lt-ltb (k .start) e l, u, w)
 
 -- ---- What an answer tells
 
 -- the packet at p keeps the bytes from a up to e, where it ends
-pub record Told (f : List ℕ) (p a e : ℕ) : Type 0 where
+pub record Told (id : ℕ → Bool) (f : List ℕ) (p a e : ℕ) : Type 0 where
   pub packet : Packet
-  pub found : packetAt subpicture f p ≡ ok packet
+  pub found : packetAt id f p ≡ ok packet
   pub ends : packet .end ≡ e
   pub keeps : keptBytes (packet .kept) ≡ slice a e f
   pub after : p + 6 ≤ a
   pub upto : a ≤ e
   pub inside : e ≤ length f
 
-module _ (f : List ℕ) (p : ℕ) where
-  kept-part : (q : Packet) (k : Part) → IsPacket subpicture f q → q .kept ≡ some k → (q .place + 6 ≤ k .place) × (k .place ≤ q .end) × (k .bytes ≡ slice (k .place) (q .end) f)
+module _ (id : ℕ → Bool) (f : List ℕ) (p : ℕ) where
+  kept-part : (q : Packet) (k : Part) → IsPacket id f q → q .kept ≡ some k
+      → (q .place + 6 ≤ k .place) × (k .place ≤ q .end) × (k .bytes ≡ slice (k .place) (q .end) f)
   kept-part q k i e = go (i .kind)
     where
-      nothing : q .kept ≡ none → (q .place + 6 ≤ k .place) × (k .place ≤ q .end) × (k .bytes ≡ slice (k .place) (q .end) f)
+      nothing : q .kept ≡ none
+          → (q .place + 6 ≤ k .place) × (k .place ≤ q .end) × (k .bytes ≡ slice (k .place) (q .end) f)
       nothing z = let g : none ≡ some k = sym z ∙ e in let y : _≡_ {A = ℕ} 0 1 = cc in absurd (omega arith)
 
-      go : IsPack f q ⊎ (IsPrivate subpicture f q ⊎ IsOther f q) → (q .place + 6 ≤ k .place) × (k .place ≤ q .end) × (k .bytes ≡ slice (k .place) (q .end) f)
+      go : IsPack f q ⊎ (IsPrivate id f q ⊎ IsOther f q)
+          → (q .place + 6 ≤ k .place) × (k .place ≤ q .end) × (k .bytes ≡ slice (k .place) (q .end) f)
       go (inl h) = nothing (h .1)
       go (inr (inr h)) = nothing (h .keeps-nothing)
       go (inr (inl h)) =
-          let w : Keeps subpicture f (h .start) (q .end) (some k) = subst (Keeps subpicture f (h .start) (q .end)) e (h .keeps) in
+          let w : Keeps id f (h .start) (q .end) (some k) = subst (Keeps id f (h .start) (q .end)) e (h .keeps) in
           let l = body-after f (q .place + 6) (q .end) (h .start) (h .body) in
           let g = w .2 .place-is in
           let b = w .0 in
           (omega arith, omega arith, w .2 .bytes-are ∙ ap (λ (n : ℕ). slice n (q .end) f) (sym g))
 
   -- by what it keeps
-  given-told : (q : Packet) (r : PacketAnswer) → packetAt subpicture f p ≡ ok q → r ≡ keptGiven (q .kept) (q .end) → ((a e : ℕ) → r ≡ packet-answer.Keeps a e → Told f p a e) × ((e : ℕ) → r ≡ packet-answer.Passes e → Told f p e e)
+  given-told : (q : Packet) (r : PacketAnswer) → packetAt id f p ≡ ok q → r ≡ keptGiven (q .kept) (q .end)
+      → ((a e : ℕ) → r ≡ packet-answer.Keeps a e → Told id f p a e) × ((e : ℕ) → r ≡ packet-answer.Passes e → Told id f p e e)
   given-told q r x y = go (q .kept) refl y
     where
-      go : (k : Option Part) → q .kept ≡ k → r ≡ keptGiven k (q .end) → ((a e : ℕ) → r ≡ packet-answer.Keeps a e → Told f p a e) × ((e : ℕ) → r ≡ packet-answer.Passes e → Told f p e e)
+      go : (k : Option Part) → q .kept ≡ k → r ≡ keptGiven k (q .end)
+          → ((a e : ℕ) → r ≡ packet-answer.Keeps a e → Told id f p a e) × ((e : ℕ) → r ≡ packet-answer.Passes e → Told id f p e e)
       go none u v = (
         λ a e w. let z : _≡_ {A = ℕ} 0 1 = cc in absurd (omega arith),
         λ e w.
-            let s = packet-sound subpicture f p q x in
-            let l = packet-longer subpicture f q (s .1) in
+            let s = packet-sound id f p q x in
+            let l = packet-longer id f q (s .1) in
             let i = s .1 .inside in
             let o = s .0 in
             let g : q .end ≡ e = cc in
@@ -276,7 +294,7 @@ module _ (f : List ℕ) (p : ℕ) where
       )
       go (some k) u v = (
         λ a e w.
-            let s = packet-sound subpicture f p q x in
+            let s = packet-sound id f p q x in
             let t = kept-part q k (s .1) u in
             let i = s .1 .inside in
             let o = s .0 in
@@ -288,28 +306,28 @@ module _ (f : List ℕ) (p : ℕ) where
         λ e w. let z : _≡_ {A = ℕ} 0 1 = cc in absurd (omega arith),
       )
 
-  module _ (r : PacketAnswer) (x : r ≡ packetGiven (packetAt subpicture f p)) where
-    pub keeps-told : (a e : ℕ) → r ≡ packet-answer.Keeps a e → Told f p a e
-    keeps-told a e y = go (packetAt subpicture f p) refl x
+  module _ (r : PacketAnswer) (x : r ≡ packetGiven (packetAt id f p)) where
+    pub keeps-told : (a e : ℕ) → r ≡ packet-answer.Keeps a e → Told id f p a e
+    keeps-told a e y = go (packetAt id f p) refl x
       where
-        go : (s : Res Packet) → packetAt subpicture f p ≡ s → r ≡ packetGiven s → Told f p a e
+        go : (s : Res Packet) → packetAt id f p ≡ s → r ≡ packetGiven s → Told id f p a e
         go (ok q) u v = given-told q r u v .0 a e y
         go (refuse n) u v = let z : _≡_ {A = ℕ} 0 1 = cc in absurd (omega arith)
 
-    pub passes-told : (e : ℕ) → r ≡ packet-answer.Passes e → Told f p e e
-    passes-told e y = go (packetAt subpicture f p) refl x
+    pub passes-told : (e : ℕ) → r ≡ packet-answer.Passes e → Told id f p e e
+    passes-told e y = go (packetAt id f p) refl x
       where
-        go : (s : Res Packet) → packetAt subpicture f p ≡ s → r ≡ packetGiven s → Told f p e e
+        go : (s : Res Packet) → packetAt id f p ≡ s → r ≡ packetGiven s → Told id f p e e
         go (ok q) u v = given-told q r u v .1 e y
         go (refuse n) u v = let z : _≡_ {A = ℕ} 0 1 = cc in absurd (omega arith)
 
-    pub refused-told : (n : ℕ) → r ≡ packet-answer.Refused n → packetAt subpicture f p ≡ refuse n
-    refused-told n y = go (packetAt subpicture f p) refl x
+    pub refused-told : (n : ℕ) → r ≡ packet-answer.Refused n → packetAt id f p ≡ refuse n
+    refused-told n y = go (packetAt id f p) refl x
       where
-        kept : (k : Option Part) (e : ℕ) → r ≡ keptGiven k e → packetAt subpicture f p ≡ refuse n
+        kept : (k : Option Part) (e : ℕ) → r ≡ keptGiven k e → packetAt id f p ≡ refuse n
         kept none e v = let z : _≡_ {A = ℕ} 0 1 = cc in absurd (omega arith)
         kept (some k) e v = let z : _≡_ {A = ℕ} 0 1 = cc in absurd (omega arith)
 
-        go : (s : Res Packet) → packetAt subpicture f p ≡ s → r ≡ packetGiven s → packetAt subpicture f p ≡ refuse n
+        go : (s : Res Packet) → packetAt id f p ≡ s → r ≡ packetGiven s → packetAt id f p ≡ refuse n
         go (ok q) u v = kept (q .kept) (q .end) v
         go (refuse m) u v = let z : m ≡ n = cc in u ∙ ap refuse z

@@ -1,57 +1,73 @@
--- A unit is refused with 12, 13 or 14, in this order. Assumes nothing.
+-- A unit is refused with 32, 12, 13 or 14, in this order. Assumes nothing.
 use Prim.Native.Nat.{ℕ, _+_, _-_}
 use mathlib.Core.Path.{_≡_, refl, sym, subst}
 use mathlib.Core.Bool.{Bool, true, false, cond}
-use mathlib.Core.Logic.{_⊎_, inl, inr, ⊎-elim}
 use mathlib.Core.List.{List, [], _∷_}
 use lib.ListN.{length}
 use lib.Dec.{leb, ltb}
-use Rattle.outcome.proofs.Numbers.{in-table}
-use Rattle.outcome.specs.Outcome.{Res, ok, refuse, mapRes, past-file, no-unit, short-scratch, InTable, Numbered}
-use Rattle.outcome.proofs.Laws.{ok-not-refuse, check-refuse, andThen-refuse, mapRes-refuse}
+use Rattle.outcome.proofs.Numbers.{in-table, check-numbered, andThen-numbered}
+use Rattle.outcome.specs.Outcome.{Res, ok, refuse, check, mapRes, past-file, no-unit, bad-stream, short-scratch, InTable, Numbered}
+use Rattle.outcome.proofs.Laws.{ok-not-refuse, mapRes-refuse}
 use Rattle.outcome.proofs.Lists.{list-refuses}
 use Rattle.grammar.specs.Bytes.{word}
-use Rattle.grammar.specs.Packets.{Form, bare, packets, scratchFor, subpicture, joined}
+use Rattle.grammar.specs.Packets.{Form, bare, packets, scratchFor, streamId, top-stream, joined}
 use Rattle.ps_model.specs.OnePacket.{part, packetAt, kindAt, privateAt, packAt, keptAt, bodyAt, headerAt, header1At, leading}
 use Rattle.ps_model.specs.Packets.{Stand, stand, standDone, standPacket, standNext, packetsAt, isBare, formAt}
-use Rattle.ps_model.specs.Unit.{unitAt}
+use Rattle.ps_model.specs.Unit.{unitAt, streamUnit}
 use Rattle.ps_model.proofs.Grammar.{packet-falls}
 use Rattle.ps_model.proofs.Read.{packet-refuses}
 use Rattle.outcome.specs.Lists.{listFuel, listFrom}
 
-module _ (f : List ℕ) (p : ℕ) where
-  -- a refusal is 12, 13 or 14
-  pub unit-refuses : (n k : ℕ) → unitAt subpicture f p n ≡ refuse k → (k ≡ past-file) ⊎ ((k ≡ no-unit) ⊎ (k ≡ short-scratch))
-  unfolding unitAt formAt packetsAt
-  unit-refuses n k e =
-      ⊎-elim (λ a. ⊎-elim inl form (check-refuse (ltb p (length f)) past-file _ a))
-      (λ a. ⊎-elim (λ b. inr (inr b)) (λ b. ok-not-refuse (sym b)) (check-refuse (leb (scratchFor (a .0)) n) short-scratch (ok (a .0)) (a .2)))
-      (andThen-refuse (formAt subpicture f p) _ e)
+module _ (id : ℕ → Bool) (f : List ℕ) (p : ℕ) where
+  -- 12 at the end of the file and past it, and 13 before it
+  pub form-refused : (k : ℕ) → formAt id f p ≡ refuse k → k ≡ cond (ltb p (length f)) no-unit past-file
+  unfolding formAt packetsAt
+  form-refused k e = go (ltb p (length f)) e
     where
-      form : cond (isBare subpicture f p) (ok (bare (part f p (p + word f p)))) (mapRes packets (packetsAt subpicture f p [])) ≡ refuse k → (k ≡ past-file) ⊎ ((k ≡ no-unit) ⊎ (k ≡ short-scratch))
-      form q = go (isBare subpicture f p) q
-        where
-          go : (t : Bool) → cond t (ok (bare (part f p (p + word f p)))) (mapRes packets (packetsAt subpicture f p [])) ≡ refuse k → (k ≡ past-file) ⊎ ((k ≡ no-unit) ⊎ (k ≡ short-scratch))
-          go true g = ok-not-refuse (sym g)
-          go false g =
-              inr
-              (inl
-              (list-refuses (standDone subpicture) (standPacket subpicture f) (standNext subpicture) (λ (s : Stand subpicture). length f - s .place) (packet-falls subpicture f) (λ (m : ℕ). m ≡ no-unit) (λ s m r. packet-refuses f (s .place) m r) (stand subpicture p []) k (mapRes-refuse packets (packetsAt subpicture f p []) g)))
+      none : (t : Bool) → cond t (ok (bare (part f p (p + word f p)))) (mapRes packets (packetsAt id f p [])) ≡ refuse k
+          → k ≡ no-unit
+      none true g = ok-not-refuse (sym g)
+      none false g =
+          list-refuses standDone (standPacket id f) standNext (λ (s : Stand). length f - s .place) (packet-falls id f) (λ (m : ℕ). m ≡ no-unit) (λ s m r. packet-refuses id f (s .place) m r) (stand p []) k
+          (mapRes-refuse packets (packetsAt id f p []) g)
 
-  pub unit-numbered : (n : ℕ) → Numbered (unitAt subpicture f p n)
-  unit-numbered n = go (unitAt subpicture f p n) refl
+      go : (t : Bool)
+          → check t past-file (cond (isBare f p) (ok (bare (part f p (p + word f p)))) (mapRes packets (packetsAt id f p []))) ≡ refuse k
+          → k ≡ cond t no-unit past-file
+      go true q = none (isBare f p) q
+      go false q = let z : past-file ≡ k = cc in sym z
+
+  pub unit-numbered : (n : ℕ) → Numbered (unitAt id f p n)
+  unfolding unitAt
+  unit-numbered n =
+      andThen-numbered InTable (formAt id f p) _ (form (formAt id f p) refl)
+      (λ m. check-numbered InTable (leb (scratchFor m) n) short-scratch (ok m) (in-table short-scratch refl) tt)
     where
-      go : (x : Res Form) → unitAt subpicture f p n ≡ x → Numbered x
-      go (ok m) q = tt
-      go (refuse k) q =
-          ⊎-elim (λ z. subst InTable (sym z) (in-table past-file refl))
-          (⊎-elim (λ z. subst InTable (sym z) (in-table no-unit refl)) (λ z. subst InTable (sym z) (in-table short-scratch refl))) (unit-refuses n k q)
+      either-number : (t : Bool) → InTable (cond t no-unit past-file)
+      either-number true = in-table no-unit refl
+      either-number false = in-table past-file refl
 
--- each order of FORMAT 9: a file, a position and a length of scratch on which both are true, and the number that is given
+      form : (x : Res Form) → formAt id f p ≡ x → Numbered x
+      form (ok m) q = tt
+      form (refuse k) q = subst InTable (sym (form-refused k q)) (either-number (ltb p (length f)))
+
+pub stream-numbered : (s : ℕ) (f : List ℕ) (p n : ℕ) → Numbered (streamUnit s f p n)
+unfolding streamUnit
+stream-numbered s f p n =
+    check-numbered InTable (leb s top-stream) bad-stream (unitAt (streamId s) f p n) (in-table bad-stream refl) (unit-numbered (streamId s) f p n)
+
+-- each order of FORMAT 9: a stream, a file, a position and a length of scratch on which both are true, and the number
+-- that is given
 pub orders :
+    -- 32, and 12
+    (streamUnit 32 [] 0 0 ≡ refuse bad-stream)
+    -- 32, and 13
+    × (streamUnit 32 (0x00 ∷ []) 0 0 ≡ refuse bad-stream)
+    -- 32, and 14, for a stream that would have the id 40
+    × (streamUnit 32 (0x00 ∷ 0x00 ∷ 0x01 ∷ 0xBD ∷ 0x00 ∷ 0x06 ∷ 0x80 ∷ 0x00 ∷ 0x00 ∷ 0x40 ∷ 0x00 ∷ 0x02 ∷ []) 0 0 ≡ refuse bad-stream)
     -- 12, and 13
-    (unitAt subpicture (0x00 ∷ []) 1 0 ≡ refuse past-file)
+    × (streamUnit 0 (0x00 ∷ []) 1 0 ≡ refuse past-file)
     -- 13, and 14
-    × (unitAt subpicture (0x00 ∷ 0x00 ∷ 0x01 ∷ 0xBD ∷ 0x00 ∷ 0x06 ∷ 0x80 ∷ 0x00 ∷ 0x00 ∷ 0x20 ∷ 0x00 ∷ 0x04 ∷ []) 0 0 ≡ refuse no-unit)
-unfolding unitAt formAt isBare packetsAt packetAt kindAt privateAt packAt keptAt bodyAt headerAt header1At leading listFrom listFuel word joined
-orders = (refl, refl)
+    × (streamUnit 0 (0x00 ∷ 0x00 ∷ 0x01 ∷ 0xBD ∷ 0x00 ∷ 0x06 ∷ 0x80 ∷ 0x00 ∷ 0x00 ∷ 0x20 ∷ 0x00 ∷ 0x04 ∷ []) 0 0 ≡ refuse no-unit)
+unfolding streamUnit unitAt formAt isBare packetsAt packetAt kindAt privateAt packAt keptAt bodyAt headerAt header1At leading listFrom listFuel word joined
+orders = (refl, refl, refl, refl, refl)

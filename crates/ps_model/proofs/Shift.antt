@@ -4,34 +4,31 @@ use native.Mathlib.Nat.{add-zero}
 use native.Mathlib.Omega.{arith}
 use mathlib.Core.Path.{_≡_, refl, sym, ap, _∙_, subst}
 use mathlib.Core.Bool.{true, false}
-use mathlib.Core.Logic.{_⊎_, inl, inr, ⊎-elim}
+use mathlib.Core.Logic.{inl, inr, ⊎-elim}
 use mathlib.Core.List.{List}
-use lib.ListN.{take}
-use lib.Seq.{slice, getD-drop, getD-take}
+use lib.Seq.{slice}
 use lib.Dec.{eqb, leb, ltb}
 use Rattle.outcome.specs.Outcome.{Res, ok, refuse, check, mapRes, no-unit}
 use Rattle.outcome.proofs.Laws.{ok-not-refuse, check-refuse, andThen-refuse, either}
 use Rattle.grammar.specs.Bytes.{byte}
 use Rattle.grammar.specs.Packets.{bufferSize, stampSize, Stuffing, Header2, Header1, IsBody}
+use Rattle.grammar.proofs.PacketParts.{byte-slice, body-after}
 use Rattle.ps_model.specs.OnePacket.{leading, stampAt, header1At, headerAt, bodyAt}
 use Rattle.ps_model.proofs.PacketGrammar.{body-iff}
 
 -- the n bytes of s from c on are those of f from a on
-pub record Alike (s : List ℕ) (c : ℕ) (f : List ℕ) (a n : ℕ) : Type 0 where
+pub record Shifted (s : List ℕ) (c : ℕ) (f : List ℕ) (a n : ℕ) : Type 0 where
   pub each : (i : ℕ) → i < n → byte s (c + i) ≡ byte f (a + i)
 
-alike-back : (s : List ℕ) (c : ℕ) (f : List ℕ) (a n : ℕ) → Alike s c f a n → Alike f a s c n
-alike-back s c f a n h = record { each = λ i l. sym (h .each i l) }
+shifted-back : (s : List ℕ) (c : ℕ) (f : List ℕ) (a n : ℕ) → Shifted s c f a n → Shifted f a s c n
+shifted-back s c f a n h = record { each = λ i l. sym (h .each i l) }
 
-pub byte-slice : (f : List ℕ) (a e i : ℕ) → a + i < e → byte (slice a e f) i ≡ byte f (a + i)
-byte-slice f a e i l = getD-drop a (take e f) i 0 ∙ getD-take e f (a + i) 0 l
-
-slice-alike : (f : List ℕ) (a e : ℕ) → Alike (slice a e f) 0 f a (e - a)
-slice-alike f a e = record { each = λ i l. let z : 0 + i ≡ i = omega arith in rw z (byte-slice f a e i (omega arith)) }
+slice-shifted : (f : List ℕ) (a e : ℕ) → Shifted (slice a e f) 0 f a (e - a)
+slice-shifted f a e = record { each = λ i l. let z : 0 + i ≡ i = omega arith in rw z (byte-slice f a e i (omega arith)) }
 
 -- ---- Bodies move with their bytes
 
-module _ (s : List ℕ) (c : ℕ) (f : List ℕ) (a n : ℕ) (h : Alike s c f a n) where
+module _ (s : List ℕ) (c : ℕ) (f : List ℕ) (a n : ℕ) (h : Shifted s c f a n) where
   first : 0 < n → byte s c ≡ byte f a
   first l = let g = h .each 0 l in rw (add-zero, add-zero) at g
 
@@ -79,9 +76,6 @@ module _ (s : List ℕ) (c : ℕ) (f : List ℕ) (a n : ℕ) (h : Alike s c f a 
       let w = t .within in
       record { some-byte = omega arith; within = omega arith; header = ⊎-elim (λ x. inl (header2-moves b x)) (λ x. inr (header1-moves b x)) (t .header) }
 
-pub body-after : (f : List ℕ) (a e b : ℕ) → IsBody f a e b → a ≤ b
-body-after f a e b t = ⊎-elim (λ x. let y = x .body in omega arith) (λ x. let y = x .body in let z = x .stamp-is in omega arith) (t .header)
-
 -- ---- A body is refused with 13
 
 pub body-refuses : (f : List ℕ) (a e n : ℕ) → bodyAt f a e ≡ refuse n → n ≡ no-unit
@@ -119,7 +113,7 @@ module _ (f : List ℕ) (a e : ℕ) (h : a ≤ e) where
       go (ok b) q =
           let i = body-iff (slice a e f) 0 (e - a) b .0 q in
           let j : IsBody (slice a e f) 0 (0 + (e - a)) (0 + b) = rw (zero-plus (e - a), zero-plus b) i in
-          let k = body-moves (slice a e f) 0 f a (e - a) (slice-alike f a e) b j in
+          let k = body-moves (slice a e f) 0 f a (e - a) (slice-shifted f a e) b j in
           body-iff f a e (a + b) .1 (subst (λ (x : ℕ). IsBody f a x (a + b)) whole k)
       go (refuse n) q = back (bodyAt f a e) refl
         where
@@ -130,6 +124,6 @@ module _ (f : List ℕ) (a e : ℕ) (h : a ≤ e) where
               let l = body-after f a e b i in
               let y : a + (b - a) ≡ b = omega arith in
               let j : IsBody f a (a + (e - a)) (a + (b - a)) = rw (whole, y) i in
-              let k = body-moves f a (slice a e f) 0 (e - a) (alike-back (slice a e f) 0 f a (e - a) (slice-alike f a e)) (b - a) j in
+              let k = body-moves f a (slice a e f) 0 (e - a) (shifted-back (slice a e f) 0 f a (e - a) (slice-shifted f a e)) (b - a) j in
               let m : IsBody (slice a e f) 0 (e - a) (b - a) = rw (zero-plus (e - a), zero-plus (b - a)) at k in
               ok-not-refuse (sym q ∙ body-iff (slice a e f) 0 (e - a) (b - a) .1 m)

@@ -5,8 +5,8 @@ use mathlib.Core.List.{List, []}
 use lib.ListN.{length, take, drop}
 use lib.Seq.{sets}
 use Rattle.outcome.specs.Outcome.{Res, ok, refuse}
-use Rattle.grammar.specs.Packets.{Packet, Form, bare, packets, unitOf, subpicture}
-use Rattle.ps_model.specs.Unit.{unitAt}
+use Rattle.grammar.specs.Packets.{Packet, Form, bare, packets, unitOf}
+use Rattle.ps_model.specs.Unit.{streamUnit}
 use Rattle.ps_model.specs.declared.JoinedAnswer.{JoinedAnswer}
 use Rattle.ps_model.specs.declared.JoinedAnswer.the-variants as joined-answer
 use Rattle.ps_model.specs.declared.UnitAnswer.{UnitAnswer}
@@ -41,7 +41,7 @@ unitPart f s p (unit-answer.Bare n) = take n (drop p f)
 unitPart f s p (unit-answer.Joined n) = take n s
 unitPart f s p (unit-answer.Refused n) = []
 
--- what finding a unit leaves: on a refusal nothing is stored
-pub record Extracted (f : List ℕ) (p : ℕ) (s : List ℕ) (r : UnitAnswer) (s′ : List ℕ) : Type 0 where
-  pub answer : r ≡ unitGiven (unitAt subpicture f p (length s))
-  pub scratch : s′ ≡ sets s 0 (unitStored (unitAt subpicture f p (length s)))
+-- what finding the unit of stream n leaves: on a refusal nothing is stored
+pub record Extracted (f : List ℕ) (p n : ℕ) (s : List ℕ) (r : UnitAnswer) (s′ : List ℕ) : Type 0 where
+  pub answer : r ≡ unitGiven (streamUnit n f p (length s))
+  pub scratch : s′ ≡ sets s 0 (unitStored (streamUnit n f p (length s)))

@@ -43,20 +43,22 @@ bodyAt f a e = check (ltb a e) no-unit (andThen (headerAt f a e) (λ b. check (l
 abbrev pub packet : List ℕ → ℕ → ℕ → Option Part → Packet
 packet f p e k = record { place = p; code = byte f (p + 3); end = e; kept = k }
 
+-- a pack header, not yet known to be whole (FORMAT 2.3)
+unfoldable pub packAt : List ℕ → ℕ → Res Packet
+packAt f p =
+    cond (eqb (byte f (p + 4) / 64) 1) (ok (packet f p (p + 14 + byte f (p + 13) % 8) none))
+    (check (eqb (byte f (p + 4) / 16) 2) no-unit (ok (packet f p (p + 12) none)))
+
 module _ (id : ℕ → Bool) where
   -- what a body from b up to e keeps (FORMAT 2.6)
   unfoldable pub keptAt : List ℕ → ℕ → ℕ → Option Part
   keptAt f b e = cond (ltb b e && id (byte f b)) (some (part f (b + 1) e)) none
 
-  -- the packet at p by its code, not yet known to be whole (FORMAT 2.3 to 2.7)
-  unfoldable pub packAt : List ℕ → ℕ → Res Packet
-  packAt f p =
-      cond (eqb (byte f (p + 4) / 64) 1) (ok (packet f p (p + 14 + byte f (p + 13) % 8) none))
-      (check (eqb (byte f (p + 4) / 16) 2) no-unit (ok (packet f p (p + 12) none)))
-
+  -- a private_stream_1 packet, not yet known to be whole (FORMAT 2.4 to 2.6)
   unfoldable pub privateAt : List ℕ → ℕ → Res Packet
   privateAt f p = mapRes (λ (b : ℕ). packet f p (lengthEnd f p) (keptAt f b (lengthEnd f p))) (bodyAt f (p + 6) (lengthEnd f p))
 
+  -- the packet at p by its code (FORMAT 2.3 to 2.7)
   unfoldable pub kindAt : List ℕ → ℕ → Res Packet
   kindAt f p =
       cond (eqb (byte f (p + 3)) 0xBA) (packAt f p)

@@ -1,10 +1,11 @@
--- The unit at a place, with room for the one that packets give: refusals 12, 13, 14 (FORMAT 2). Assumes nothing: these are definitions.
+-- The unit of a stream at a place, with room for the one that packets give: refusals 32, 12, 13, 14 (FORMAT 2).
+-- Assumes nothing: these are definitions.
 use Prim.Native.Nat.{ℕ}
 use mathlib.Core.Bool.{Bool}
 use mathlib.Core.List.{List, []}
 use lib.Dec.{leb}
-use Rattle.outcome.specs.Outcome.{Res, ok, check, andThen, mapRes, short-scratch}
-use Rattle.grammar.specs.Packets.{Form, packets, scratchFor}
+use Rattle.outcome.specs.Outcome.{Res, ok, check, andThen, mapRes, bad-stream, short-scratch}
+use Rattle.grammar.specs.Packets.{Form, packets, scratchFor, streamId, top-stream}
 use Rattle.ps_model.specs.Packets.{packetsAt, formAt}
 
 -- a form for which n bytes of scratch are enough
@@ -18,3 +19,7 @@ module _ (id : ℕ → Bool) where
   -- the same of packets alone
   unfoldable pub joinedAt : List ℕ → ℕ → ℕ → Res Form
   joinedAt f p n = withScratch n (mapRes packets (packetsAt id f p []))
+
+-- the unit of stream s: 32 comes first (FORMAT 2.10)
+unfoldable pub streamUnit : ℕ → List ℕ → ℕ → ℕ → Res Form
+streamUnit s f p n = check (leb s top-stream) bad-stream (unitAt (streamId s) f p n)

@@ -109,10 +109,17 @@ fn pes(bytes: &[u8], e: Expected) -> bool {
     as_expected(e, r, mixed(1, body as u64))
 }
 
-fn packets(bytes: &[u8], position: usize, scratch: &mut [u8], e: Expected) -> bool {
+fn packets(bytes: &[u8], position: usize, stream: usize, scratch: &mut [u8], e: Expected) -> bool {
     let mut length: usize = NUMBER;
     let mut joined: u8 = BYTE;
-    let r = vobsub_c::vobsub_extract_spu(bytes, position, scratch, &mut length, &mut joined);
+    let r = vobsub_c::vobsub_extract_spu(
+        bytes,
+        position,
+        stream,
+        scratch,
+        &mut length,
+        &mut joined,
+    );
     let s = mixed(mixed(1, length as u64), joined as u64);
     as_expected(e, r, mixed_bytes(s, scratch))
 }
@@ -184,6 +191,7 @@ fn canvas(
     text: &[u8],
     file: &[u8],
     n: usize,
+    stream: usize,
     scratch: &mut [u8],
     map: &mut [u8],
     words: &mut [u16],
@@ -196,6 +204,7 @@ fn canvas(
         text,
         file,
         n,
+        stream,
         scratch,
         map,
         words,
@@ -208,10 +217,10 @@ fn canvas(
     as_expected(e, r, mixed_bytes(t, bytes))
 }
 
-fn packets_row(bytes: &[u8], position: usize, room: usize, e: Expected) -> bool {
+fn packets_row(bytes: &[u8], position: usize, stream: usize, room: usize, e: Expected) -> bool {
     let mut scratch = [BYTE; 8192];
     if room <= 8192 {
-        return packets(bytes, position, &mut scratch[..room], e);
+        return packets(bytes, position, stream, &mut scratch[..room], e);
     }
     false
 }
@@ -273,6 +282,7 @@ fn canvas_lent(
     text: &[u8],
     file: &[u8],
     n: usize,
+    stream: usize,
     a: usize,
     b: usize,
     c: usize,
@@ -291,6 +301,7 @@ fn canvas_lent(
                         text,
                         file,
                         n,
+                        stream,
                         &mut scratch[..a],
                         &mut map[..b],
                         &mut words[..c],
@@ -304,16 +315,17 @@ fn canvas_lent(
     false
 }
 
-// The text's length in four bytes, the cue in two, then text and file.
+// The text's length in four bytes, the cue and the stream in two each, then text and file.
 fn canvas_row(row: &[u8], a: usize, b: usize, c: usize, d: usize, e: Expected) -> bool {
-    if row.len() < 6 {
+    if row.len() < 8 {
         return false;
     }
     let length = long_of(row[0], row[1], row[2], row[3]) as usize;
     let n = word_of(row[4], row[5]);
-    let rest = &row[6..];
+    let stream = word_of(row[6], row[7]);
+    let rest = &row[8..];
     if length <= rest.len() {
-        return canvas_lent(&rest[..length], &rest[length..], n, a, b, c, d, e);
+        return canvas_lent(&rest[..length], &rest[length..], n, stream, a, b, c, d, e);
     }
     false
 }
@@ -332,7 +344,7 @@ fn row(class: u8, bytes: &[u8], a: usize, b: usize, c: usize, d: usize, e: Expec
         return pes(bytes, e);
     }
     if class == 2 {
-        return packets_row(bytes, a, b, e);
+        return packets_row(bytes, a, b, c, e);
     }
     if class == 3 {
         return bands_row(bytes, a, b, e);

@@ -1,13 +1,13 @@
 -- A field is refused with 26 for running out, and with 22 before that for a short map. Assumes nothing.
-use Prim.Native.Nat.{ℕ, zero, suc, _+_, _-_, _*_, _^_}
+use Prim.Native.Nat.{ℕ, zero, suc, _+_, _*_, _^_}
 use mathlib.Core.Path.{_≡_, refl, sym}
 use mathlib.Core.Bool.{Bool, true, false, cond}
-use mathlib.Core.Logic.{_⊎_, ⊎-elim}
+use mathlib.Core.Logic.{⊎-elim}
 use mathlib.Core.List.{List, [], _∷_}
 use lib.ListN.{length}
 use lib.Dec.{leb}
 use Rattle.outcome.proofs.Numbers.{in-table, check-numbered, only-numbered}
-use Rattle.outcome.specs.Outcome.{ok, refuse, consRes, short-pixels, field-ran-out, Numbered}
+use Rattle.outcome.specs.Outcome.{InTable, ok, refuse, consRes, short-pixels, field-ran-out, Numbered}
 use Rattle.outcome.proofs.Laws.{ok-not-refuse, andThen-refuse, consRes-refuse, check-refuse}
 use Rattle.outcome.proofs.Lists.{list-refuses}
 use Rattle.grammar.specs.Bytes.{nibbles}
@@ -46,12 +46,12 @@ field-refuses u e w (suc n) p k q =
     (andThen-refuse (rowAt u e w p) (λ r. consRes r (fieldAt u e w n (align (afterCodes p r)))) q)
 
 pub field-numbered : (u : List ℕ) (e w n p : ℕ) → Numbered (fieldAt u e w n p)
-field-numbered u e w n p = only-numbered field-ran-out (in-table field-ran-out refl) (fieldAt u e w n p) (field-refuses u e w n p)
+field-numbered u e w n p = only-numbered InTable field-ran-out (in-table field-ran-out refl) (fieldAt u e w n p) (field-refuses u e w n p)
 
 pub decoded-numbered : (s : List ℕ) (w h start : ℕ) (px : List ℕ) → Numbered (decoded s w h start px)
 unfolding decoded
 decoded-numbered s w h start px =
-    check-numbered (leb (w * h) (length px)) short-pixels _ (in-table short-pixels refl) (field-numbered s (length s) w (rowsFrom start h) 0)
+    check-numbered InTable (leb (w * h) (length px)) short-pixels _ (in-table short-pixels refl) (field-numbered s (length s) w (rowsFrom start h) 0)
 
 -- 22 before 26: an empty field, and a map of one pixel for two
 pub orders :

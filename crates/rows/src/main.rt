@@ -2,8 +2,8 @@
 // the memory lent for it, with `.` for what is as found: bytes of 238, words of EEEE, starts of -77, positions of 77.
 // A line of standard input is a row: the function, its name, its numbers, its bytes, and for decode_cue the bytes of
 // the file, with a bar between them. The numbers are those of the call in its order, and how much memory is lent:
-// parse_and_decode_spu: map, words. extract_spu: position; scratch. parse_idx: starts, positions. pick_cue: cue.
-// decode_cue: cue; scratch, map, words, canvas. decode_rle_field: width, height, start row; map.
+// parse_and_decode_spu: map, words. extract_spu: position, stream; scratch. parse_idx: starts, positions.
+// pick_cue: cue. decode_cue: cue, stream; scratch, map, words, canvas. decode_rle_field: width, height, start row; map.
 // parse_chg_colcon_payload: place; words; the first word that is written.
 use idx_numbers::starts;
 use libc::STDIN_FILENO;
@@ -181,10 +181,17 @@ fn part_of(s: &[u8], from: usize, length: usize) {
     }
 }
 
-fn extracted(file: &[u8], position: usize, scratch: &mut [u8]) {
+fn extracted(file: &[u8], position: usize, stream: usize, scratch: &mut [u8]) {
     let mut length: usize = 0;
     let mut joined: u8 = 0;
-    let refusal = vobsub_c::vobsub_extract_spu(file, position, scratch, &mut length, &mut joined);
+    let refusal = vobsub_c::vobsub_extract_spu(
+        file,
+        position,
+        stream,
+        scratch,
+        &mut length,
+        &mut joined,
+    );
     if answered(refusal) {
         if joined == 0 {
             form(b": bare @,", &[length; 16]);
@@ -198,10 +205,10 @@ fn extracted(file: &[u8], position: usize, scratch: &mut [u8]) {
     cells(scratch, &[], scratch.len(), 238);
 }
 
-fn packets(file: &[u8], position: usize, room: usize) {
+fn packets(file: &[u8], position: usize, stream: usize, room: usize) {
     let mut scratch = [FOUND; 8];
     if room <= 8 {
-        extracted(file, position, &mut scratch[..room]);
+        extracted(file, position, stream, &mut scratch[..room]);
     }
 }
 
@@ -355,6 +362,7 @@ fn painted(
         text,
         file,
         table::given(line, 0),
+        table::given(line, 1),
         scratch,
         map,
         words,
@@ -374,10 +382,10 @@ fn lent(line: &[u8], text: &[u8], file: &[u8]) {
     let mut map = [FOUND; 300];
     let mut words = [FOUND_WORD; 40];
     let mut canvas = [FOUND; 1200];
-    let a = table::given(line, 1);
-    let b = table::given(line, 2);
-    let c = table::given(line, 3);
-    let d = table::given(line, 4);
+    let a = table::given(line, 2);
+    let b = table::given(line, 3);
+    let c = table::given(line, 4);
+    let d = table::given(line, 5);
     if a <= 400 {
         if b <= 300 {
             if c <= 40 {
@@ -469,7 +477,7 @@ fn asked(line: &[u8], bytes: &[u8]) {
         unit(bytes, a, b);
     }
     if starts(line, b"extract_spu|") {
-        packets(bytes, a, b);
+        packets(bytes, a, b, table::given(line, 2));
     }
     if starts(line, b"parse_idx|") {
         index(bytes, a, b);

@@ -4,7 +4,7 @@ use mathlib.Core.Path.{refl, _≡_}
 use mathlib.Core.List.{List, [], _∷_}
 use lib.Dec.{leb, ltb}
 use lib.ListN.{length}
-use Rattle.outcome.specs.Outcome.{Numbered, short-pixels, short-words, no-top-field, refuse, no-area}
+use Rattle.outcome.specs.Outcome.{InTable, Numbered, short-pixels, short-words, no-top-field, refuse, no-area}
 use Rattle.outcome.proofs.Numbers.{in-table, check-numbered, cond-numbered, andThen-numbered, mapRes-numbered}
 use Rattle.grammar.specs.Bands.{bandWords, entryWords}
 use Rattle.grammar.specs.Control.{lengthWord, controlWord}
@@ -26,18 +26,18 @@ use Rattle.control_model.specs.Listed.{held, bandsAt}
 pub rows-numbered : (u : List ℕ) (t : Told) → Numbered (rowsAt u t)
 unfolding rowsAt fieldsAt lowerAt
 rows-numbered u t =
-    check-numbered (ltb (t .fields .top) (lengthWord u)) no-top-field _ (in-table no-top-field refl)
-    (andThen-numbered (fieldAt u (topEnd (controlWord u) (t .fields)) (width t) (rowsFrom 0 (height t)) (2 * t .fields .top)) _ (field-numbered u (topEnd (controlWord u) (t .fields)) (width t) (rowsFrom 0 (height t)) (2 * t .fields .top))
-    (λ x. andThen-numbered (lowerAt u (t .fields .bottom) (controlWord u) (hasBottom (controlWord u) (t .fields .bottom)) (width t) (rowsFrom 1 (height t))) _
-    (cond-numbered (hasBottom (controlWord u) (t .fields .bottom)) _ _ (field-numbered u (controlWord u) (width t) (rowsFrom 1 (height t)) (2 * t .fields .bottom)) tt) (λ y. tt)))
+    check-numbered InTable (ltb (t .fields .top) (lengthWord u)) no-top-field _ (in-table no-top-field refl)
+    (andThen-numbered InTable (fieldAt u (topEnd (controlWord u) (t .fields)) (width t) (rowsFrom 0 (height t)) (2 * t .fields .top)) _ (field-numbered u (topEnd (controlWord u) (t .fields)) (width t) (rowsFrom 0 (height t)) (2 * t .fields .top))
+    (λ x. andThen-numbered InTable (lowerAt u (t .fields .bottom) (controlWord u) (hasBottom (controlWord u) (t .fields .bottom)) (width t) (rowsFrom 1 (height t))) _
+    (cond-numbered InTable (hasBottom (controlWord u) (t .fields .bottom)) _ _ (field-numbered u (controlWord u) (width t) (rowsFrom 1 (height t)) (2 * t .fields .bottom)) tt) (λ y. tt)))
 
 pub unit-numbered : (u : List ℕ) (n m : ℕ) → Numbered (unitIn u n m)
 unfolding unitIn
 unit-numbered u n m =
-    andThen-numbered (controlAt u) _ (control-numbered u)
-    (λ bs. check-numbered (leb (width (told bs) * height (told bs)) n) short-pixels _ (in-table short-pixels refl)
-    (check-numbered (leb (length (bandWords (told bs .bands))) m) short-words _ (in-table short-words refl)
-    (mapRes-numbered (listedUnit bs) (rowsAt u (told bs)) (rows-numbered u (told bs)))))
+    andThen-numbered InTable (controlAt u) _ (control-numbered u)
+    (λ bs. check-numbered InTable (leb (width (told bs) * height (told bs)) n) short-pixels _ (in-table short-pixels refl)
+    (check-numbered InTable (leb (length (bandWords (told bs .bands))) m) short-words _ (in-table short-words refl)
+    (mapRes-numbered InTable (listedUnit bs) (rowsAt u (told bs)) (rows-numbered u (told bs)))))
 
 -- a unit with one byte b of field and one block, of these bytes after its head
 abbrev unit : ℕ → List ℕ → List ℕ

@@ -1,11 +1,15 @@
-// The one call, from index text, file and cue number to a cue's canvas, with painting inside it (docs/FORMAT.md, section 6).
+// The one call, from index text, file, cue number and stream to a cue's canvas, with painting inside it
+// (docs/FORMAT.md, section 6).
 use bands_model::LookAnswer;
 use control_model::ControlAnswer;
 use control_model::Spu;
 use idx_model::CueAnswer;
+use outcome::BAD_STREAM;
+use outcome::NO_CUE;
 use outcome::SHORT_CANVAS;
 use outcome::SHORT_PIXELS;
 use outcome::SHORT_WORDS;
+use ps::TOP_STREAM;
 use ps_model::UnitAnswer;
 use spu_model::SpuAnswer;
 use vobsub_model::CanvasAnswer;
@@ -26,8 +30,8 @@ ghost use Rattle.grammar.specs.Canvas.{nibbleOf, pixel, lineBytes};
 ghost use Rattle.ps_model.specs.Answers.{unitPart};
 ghost use Rattle.grammar.specs.Reading.{wanted};
 ghost use Rattle.vobsub_model.specs.Call.{lent};
-ghost use Rattle.vobsub_model.specs.Answers.{UnitPainted, shownOf, FoundPainted, CuePainted};
-ghost use Rattle.vobsub_model.specs.Claim.{Exactly};
+ghost use Rattle.vobsub_model.specs.Answers.{UnitPainted, shownOf, FoundPainted, firstRefusal, CuePainted};
+ghost use Rattle.vobsub_model.specs.Claim.{Exactly, Undisturbed};
 ghost use Rattle.vobsub_model.specs.Paint.{lookIs, wordLook, sameLook, fourColours, tableLine, mapCanvas};
 ghost use Rattle.rle_model.specs.Answers.{nothing};
 
@@ -339,28 +343,44 @@ fn paint_found<'a>(
     }
 }
 
-// The cue with that number, from index text and file: what is shown of it, with its canvas in the front of `canvas`, its index map in the
-// front of `pixels`, its bands in the front of `words`, and its unit in the front of `scratch` where packets hold it. A refusal leaves all
-// as found, but for a unit that was already joined in scratch.
-// Ruled out: a canvas of another cue's unit; a refusal where these files have a reading for the cue and the buffers are long enough.
+// The refusal of a text or of a cue: of a text first, then of a stream, then of a cue that is not there.
+fn first_refusal(refused: u8, stream: usize) -> u8
+    ensures { λ r. ⌜ r ≡ firstRefusal refused stream ⌝ }
+{
+    if refused != NO_CUE {
+        return refused;
+    }
+    if stream <= TOP_STREAM {
+        return refused;
+    }
+    BAD_STREAM
+}
+
+// The cue with that number in that stream, from index text and file: what is shown of it, with its canvas in the front
+// of `canvas`, its index map in the front of `pixels`, its bands in the front of `words`, and its unit in the front of
+// `scratch` where packets hold it. A refusal leaves all as found, but for a unit that was already joined in scratch.
+// Ruled out: a canvas of another cue's or another stream's unit; a refusal where these files have a reading for the cue
+// and the stream and the buffers are long enough.
 pub fn decode_cue(
     text: &[u8],
     file: &[u8],
     cue: usize,
+    stream: usize,
     scratch: &mut [u8],
     pixels: &mut [u8],
     words: &mut [u16],
     canvas: &mut [u8],
 ) -> CanvasAnswer
-    ensures { λ r. ⌜ CuePainted (now (text .entry)) (now (file .entry)) (wanted cue) (lent (now (scratch .entry)) (now (pixels .entry)) (now (words .entry)) (now (canvas .entry))) r (lent (now (scratch .exit)) (now (pixels .exit)) (now (words .exit)) (now (canvas .exit)))
-        × Exactly (now (text .entry)) (now (file .entry)) (wanted cue) (lent (now (scratch .entry)) (now (pixels .entry)) (now (words .entry)) (now (canvas .entry))) r (lent (now (scratch .exit)) (now (pixels .exit)) (now (words .exit)) (now (canvas .exit))) ⌝ }
+    ensures { λ r. ⌜ CuePainted (now (text .entry)) (now (file .entry)) (wanted cue stream) (lent (now (scratch .entry)) (now (pixels .entry)) (now (words .entry)) (now (canvas .entry))) r (lent (now (scratch .exit)) (now (pixels .exit)) (now (words .exit)) (now (canvas .exit)))
+        × Exactly (now (text .entry)) (now (file .entry)) (wanted cue stream) (lent (now (scratch .entry)) (now (pixels .entry)) (now (words .entry)) (now (canvas .entry))) r (lent (now (scratch .exit)) (now (pixels .exit)) (now (words .exit)) (now (canvas .exit)))
+        × Undisturbed (now (text .entry)) (now (file .entry)) (wanted cue stream) (lent (now (scratch .entry)) (now (pixels .entry)) (now (words .entry)) (now (canvas .entry))) r (lent (now (scratch .exit)) (now (pixels .exit)) (now (words .exit)) (now (canvas .exit))) ⌝ }
 {
-    let request = Request { cue };
+    let request = Request { cue, stream };
     let c = idx::pick_cue(text, request.cue);
     if c.refused != 0 {
-        return CanvasAnswer::Refused(c.refused);
+        return CanvasAnswer::Refused(first_refusal(c.refused, request.stream));
     }
-    match ps::extract_spu(file, c.position as usize, scratch) {
+    match ps::extract_spu(file, c.position as usize, request.stream, scratch) {
         UnitAnswer::Bare(n) => paint_found(
             file,
             &scratch[..],

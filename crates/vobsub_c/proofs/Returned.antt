@@ -4,20 +4,20 @@ use mathlib.Core.Path.{_≡_, refl, _∙_}
 use mathlib.Core.List.{List}
 use lib.IntN.{ℤ}
 use lib.ListN.{length}
-use Rattle.outcome.specs.Outcome.{Res, ok, refuse, refusalOf, Returned, no-unit}
+use Rattle.outcome.specs.Outcome.{Res, ok, refuse, refusalOf, InTable, Returned, no-unit}
 use Rattle.outcome.proofs.Numbers.{in-table, only-numbered, returned}
 use Rattle.grammar.specs.Index.{Said}
 use Rattle.grammar.specs.Picture.{ListedUnit}
-use Rattle.grammar.specs.Packets.{Form, bare, packets, subpicture}
-use Rattle.grammar.specs.Reading.{Reading, wanted}
+use Rattle.grammar.specs.Packets.{Form, bare, packets}
+use Rattle.grammar.specs.Reading.{Wanted, Reading}
 use Rattle.grammar.specs.Rows.{Code}
 use Rattle.bands_model.specs.Answers.{countOf, stored}
 use Rattle.bands_model.proofs.Refusals.{stored-numbered}
 use Rattle.ps_model.specs.OnePacket.{bodyAt}
 use Rattle.ps_model.proofs.Shift.{body-refuses}
-use Rattle.ps_model.specs.Unit.{unitAt}
+use Rattle.ps_model.specs.Unit.{streamUnit}
 use Rattle.ps_model.specs.Answers.{unitGiven}
-use Rattle.ps_model.proofs.Refusals as ps
+use Rattle.ps_model.proofs.Refusals.{stream-numbered}
 use Rattle.rle_model.specs.Field.{decoded}
 use Rattle.rle_model.specs.Answers.{fieldAnswer}
 use Rattle.rle_model.proofs.Refusals.{decoded-numbered}
@@ -35,7 +35,8 @@ use Rattle.vobsub_model.specs.Answers.{canvasAnswer}
 use Rattle.vobsub_model.proofs.Refusals.{reading-numbered}
 use Rattle.vobsub_c.specs.Answers.{bandRefusal, unitRefusal, fieldRefusal, spuRefusal, demoRefusal, canvasRefusal}
 
-pub bands-returned : (s : List ℕ) (at : ℕ) (ws : List ℕ) (r : ℕ) → r ≡ bandRefusal (countOf 0 (stored s at ws)) → Returned (stored s at ws) r
+pub bands-returned : (s : List ℕ) (at : ℕ) (ws : List ℕ) (r : ℕ) → r ≡ bandRefusal (countOf 0 (stored s at ws))
+    → Returned (stored s at ws) r
 bands-returned s at ws r e = returned (stored s at ws) r (stored-numbered s at ws) (e ∙ go (stored s at ws))
   where
     go : (x : Res (List ℕ)) → bandRefusal (countOf 0 x) ≡ refusalOf x
@@ -43,17 +44,19 @@ bands-returned s at ws r e = returned (stored s at ws) r (stored-numbered s at w
     go (refuse n) = refl
 
 pub body-returned : (s : List ℕ) (r : ℕ) → r ≡ refusalOf (bodyAt s 0 (length s)) → Returned (bodyAt s 0 (length s)) r
-body-returned s r e = returned (bodyAt s 0 (length s)) r (only-numbered no-unit (in-table no-unit refl) (bodyAt s 0 (length s)) (body-refuses s 0 (length s))) e
+body-returned s r e = returned (bodyAt s 0 (length s)) r (only-numbered InTable no-unit (in-table no-unit refl) (bodyAt s 0 (length s)) (body-refuses s 0 (length s))) e
 
-pub unit-returned : (f : List ℕ) (p n r : ℕ) → r ≡ unitRefusal (unitGiven (unitAt subpicture f p n)) → Returned (unitAt subpicture f p n) r
-unit-returned f p n r e = returned (unitAt subpicture f p n) r (ps.unit-numbered f p n) (e ∙ go (unitAt subpicture f p n))
+pub unit-returned : (f : List ℕ) (p s n r : ℕ) → r ≡ unitRefusal (unitGiven (streamUnit s f p n))
+    → Returned (streamUnit s f p n) r
+unit-returned f p s n r e = returned (streamUnit s f p n) r (stream-numbered s f p n) (e ∙ go (streamUnit s f p n))
   where
     go : (x : Res Form) → unitRefusal (unitGiven x) ≡ refusalOf x
     go (ok (bare u)) = refl
     go (ok (packets l)) = refl
     go (refuse k) = refl
 
-pub field-returned : (s : List ℕ) (w h start : ℕ) (px : List ℕ) (r : ℕ) → r ≡ fieldRefusal (fieldAnswer w (decoded s w h start px)) → Returned (decoded s w h start px) r
+pub field-returned : (s : List ℕ) (w h start : ℕ) (px : List ℕ) (r : ℕ)
+    → r ≡ fieldRefusal (fieldAnswer w (decoded s w h start px)) → Returned (decoded s w h start px) r
 field-returned s w h start px r e = returned (decoded s w h start px) r (decoded-numbered s w h start px) (e ∙ go (decoded s w h start px))
   where
     go : (x : Res (List (List Code))) → fieldRefusal (fieldAnswer w x) ≡ refusalOf x
@@ -67,14 +70,16 @@ spu-returned u n m r e = returned (unitIn u n m) r (unit-numbered u n m) (e ∙ 
     go (ok l) = refl
     go (refuse k) = refl
 
-pub demo-returned : (w h : ℕ) (px : List ℕ) (n r : ℕ) → r ≡ demoRefusal (demoGiven (demoAt w h px n)) → Returned (demoAt w h px n) r
+pub demo-returned : (w h : ℕ) (px : List ℕ) (n r : ℕ) → r ≡ demoRefusal (demoGiven (demoAt w h px n))
+    → Returned (demoAt w h px n) r
 demo-returned w h px n r e = returned (demoAt w h px n) r (demo-numbered w h px n) (e ∙ go (demoAt w h px n))
   where
     go : (x : Res (List ℕ)) → demoRefusal (demoGiven x) ≡ refusalOf x
     go (ok u) = refl
     go (refuse k) = refl
 
-pub index-returned : (starts : List ℤ) (positions text : List ℕ) (r : ℕ) → r ≡ idxAnswer (linesWith starts positions text) .refused → Returned (linesWith starts positions text) r
+pub index-returned : (starts : List ℤ) (positions text : List ℕ) (r : ℕ)
+    → r ≡ idxAnswer (linesWith starts positions text) .refused → Returned (linesWith starts positions text) r
 unfolding idxAnswer
 index-returned starts positions text r e = returned (linesWith starts positions text) r (text-numbered _ text) (e ∙ go (linesWith starts positions text))
   where
@@ -82,7 +87,8 @@ index-returned starts positions text r e = returned (linesWith starts positions 
     go (ok ls) = refl
     go (refuse n) = refl
 
-pub cue-returned : (text : List ℕ) (n r : ℕ) → r ≡ cueAnswer (pickOf (textOf text) n) .refused → Returned (pickOf (textOf text) n) r
+pub cue-returned : (text : List ℕ) (n r : ℕ) → r ≡ cueAnswer (pickOf (textOf text) n) .refused
+    → Returned (pickOf (textOf text) n) r
 unfolding cueAnswer
 cue-returned text n r e = returned (pickOf (textOf text) n) r (pick-numbered text n) (e ∙ go (pickOf (textOf text) n))
   where
@@ -90,8 +96,9 @@ cue-returned text n r e = returned (pickOf (textOf text) n) r (pick-numbered tex
     go (ok p) = refl
     go (refuse k) = refl
 
-pub canvas-returned : (text file : List ℕ) (n : ℕ) (b : Lent) (r : ℕ) → r ≡ canvasRefusal (canvasAnswer (readingIn text file (wanted n) b)) → Returned (readingIn text file (wanted n) b) r
-canvas-returned text file n b r e = returned (readingIn text file (wanted n) b) r (reading-numbered text file (wanted n) b) (e ∙ go (readingIn text file (wanted n) b))
+pub canvas-returned : (text file : List ℕ) (q : Wanted) (b : Lent) (r : ℕ)
+    → r ≡ canvasRefusal (canvasAnswer (readingIn text file q b)) → Returned (readingIn text file q b) r
+canvas-returned text file q b r e = returned (readingIn text file q b) r (reading-numbered text file q b) (e ∙ go (readingIn text file q b))
   where
     go : (x : Res Reading) → canvasRefusal (canvasAnswer x) ≡ refusalOf x
     go (ok y) = refl

@@ -2,7 +2,9 @@
 -- the last content of all that was lent. Assumes nothing: these are definitions.
 use Prim.Native.Nat.{ℕ, _*_}
 use mathlib.Core.Path.{_≡_}
-use mathlib.Core.List.{List}
+use mathlib.Core.List.{List, []}
+use mathlib.Core.Logic.{_↔_}
+use mathlib.Core.Option.{some}
 use mathlib.Core.Bool.{cond}
 use lib.Dec.{eqb}
 use lib.IntN.{ℤ}
@@ -12,9 +14,12 @@ use Rattle.outcome.specs.Outcome.{Res, ok, refuse, listed, refusalOf, Returned}
 use Rattle.bands_model.specs.Answers.{countOf, stored}
 use Rattle.bands_model.specs.declared.BandAnswer.{BandAnswer}
 use Rattle.bands_model.specs.declared.BandAnswer.the-variants as band-answer
-use Rattle.grammar.specs.Packets.{subpicture}
+use Rattle.grammar.specs.Index.{Said, IsText}
+use Rattle.grammar.specs.IndexCues.{Cue, cuesOf, cueAt}
+use Rattle.grammar.specs.Packets.{Packet, streamId}
+use Rattle.grammar.specs.Streams.{Walk, Alike}
 use Rattle.ps_model.specs.OnePacket.{bodyAt}
-use Rattle.ps_model.specs.Unit.{unitAt}
+use Rattle.ps_model.specs.Unit.{streamUnit}
 use Rattle.ps_model.specs.Answers.{unitGiven, unitStored}
 use Rattle.ps_model.specs.declared.UnitAnswer.{UnitAnswer}
 use Rattle.ps_model.specs.declared.UnitAnswer.the-variants as unit-answer
@@ -35,7 +40,7 @@ use Rattle.spu_model.specs.Unit.{unitIn}
 use Rattle.spu_model.specs.Answers.{spuAnswer, unitMap, unitBands}
 use Rattle.spu_model.specs.declared.SpuAnswer.{SpuAnswer}
 use Rattle.spu_model.specs.declared.SpuAnswer.the-variants as spu-answer
-use Rattle.grammar.specs.Reading.{wanted}
+use Rattle.grammar.specs.Reading.{Wanted, wantedId, Reading, IsReading}
 use Rattle.vobsub_model.specs.Call.{Lent, foundFor, readingIn}
 use Rattle.vobsub_model.specs.Answers.{canvasAnswer, scratchOf, pixelsOf, bandsOf, paintedOf}
 use Rattle.vobsub_model.specs.Claim.{Exactly}
@@ -76,12 +81,27 @@ unitJoined (unit-answer.Bare n) before = 0
 unitJoined (unit-answer.Joined n) before = 1
 unitJoined (unit-answer.Refused k) before = before
 
-pub record UnitExtracted (file : List ℕ) (position : ℕ) (scratch : List ℕ) (before joined r : ℕ) (scratch′ : List ℕ) (after joined′ : ℕ) : Type 0 where
-  pub refusal : r ≡ unitRefusal (unitGiven (unitAt subpicture file position (length scratch)))
-  pub returned : Returned (unitAt subpicture file position (length scratch)) r
-  pub long : after ≡ unitLength (unitGiven (unitAt subpicture file position (length scratch))) before
-  pub where-is : joined′ ≡ unitJoined (unitGiven (unitAt subpicture file position (length scratch))) joined
-  pub stores : scratch′ ≡ sets scratch 0 (unitStored (unitAt subpicture file position (length scratch)))
+pub record UnitExtracted (file : List ℕ) (position stream : ℕ) (scratch : List ℕ) (before joined r : ℕ) (scratch′ : List ℕ) (after joined′ : ℕ) : Type 0 where
+  pub refusal : r ≡ unitRefusal (unitGiven (streamUnit stream file position (length scratch)))
+  pub returned : Returned (streamUnit stream file position (length scratch)) r
+  pub long : after ≡ unitLength (unitGiven (streamUnit stream file position (length scratch))) before
+  pub where-is : joined′ ≡ unitJoined (unitGiven (streamUnit stream file position (length scratch))) joined
+  pub stores : scratch′ ≡ sets scratch 0 (unitStored (streamUnit stream file position (length scratch)))
+
+-- two calls return and leave the same
+pub record SameExtracted (r t : ℕ) (scratch scratch′ : List ℕ) (after after′ joined joined′ : ℕ) : Type 0 where
+  pub refusal : r ≡ t
+  pub stores : scratch ≡ scratch′
+  pub long : after ≡ after′
+  pub where-is : joined ≡ joined′
+
+-- a file that differs from this one in packets of other streams alone, among those walked from the position, gives the
+-- same (FORMAT 2.11)
+abbrev pub UnitUndisturbed : List ℕ → ℕ → ℕ → List ℕ → ℕ → ℕ → ℕ → List ℕ → ℕ → ℕ → Type 0
+UnitUndisturbed file position stream scratch before joined r scratch′ after joined′ =
+    (other : List ℕ) (ps : List Packet) → Walk (streamId stream) file position [] ps → Alike stream file other ps
+    → (t : ℕ) (scratch″ : List ℕ) (after″ joined″ : ℕ) → UnitExtracted other position stream scratch before joined t scratch″ after″ joined″
+    → SameExtracted r t scratch′ scratch″ after after″ joined′ joined″
 
 -- the place of a body, or the number that was there
 abbrev pub bodyPlace : Res ℕ → ℕ → ℕ
@@ -186,13 +206,33 @@ canvasStart (canvas-answer.Paints s) before = s .start
 canvasStart (canvas-answer.Refused k) before = before
 
 -- the answer with its numbers, what the four buffers hold, and the call's claim on whole files
-pub record CueDecoded (text file : List ℕ) (cue : ℕ) (b : Lent) (start : ℤ) (numbers : List ℕ) (r : ℕ) (b′ : Lent) (start′ : ℤ) (numbers′ : List ℕ) : Type 0 where
-  pub refusal : r ≡ canvasRefusal (canvasAnswer (readingIn text file (wanted cue) b))
-  pub returned : Returned (readingIn text file (wanted cue) b) r
-  pub starts-at : start′ ≡ canvasStart (canvasAnswer (readingIn text file (wanted cue) b)) start
-  pub told : numbers′ ≡ canvasRecord (canvasAnswer (readingIn text file (wanted cue) b)) numbers
-  pub in-scratch : b′ .scratch ≡ sets (b .scratch) 0 (scratchOf (foundFor text file (wanted cue) (length (b .scratch))))
-  pub in-pixels : b′ .pixels ≡ sets (b .pixels) 0 (pixelsOf (readingIn text file (wanted cue) b))
-  pub in-words : b′ .words ≡ sets (b .words) 0 (bandsOf (readingIn text file (wanted cue) b))
-  pub in-canvas : b′ .canvas ≡ sets (b .canvas) 0 (paintedOf (readingIn text file (wanted cue) b))
-  pub exactly : Exactly text file (wanted cue) b (canvasAnswer (readingIn text file (wanted cue) b)) b′
+pub record CueDecoded (text file : List ℕ) (q : Wanted) (b : Lent) (start : ℤ) (numbers : List ℕ) (r : ℕ) (b′ : Lent) (start′ : ℤ) (numbers′ : List ℕ) : Type 0 where
+  pub refusal : r ≡ canvasRefusal (canvasAnswer (readingIn text file q b))
+  pub returned : Returned (readingIn text file q b) r
+  pub starts-at : start′ ≡ canvasStart (canvasAnswer (readingIn text file q b)) start
+  pub told : numbers′ ≡ canvasRecord (canvasAnswer (readingIn text file q b)) numbers
+  pub in-scratch : b′ .scratch ≡ sets (b .scratch) 0 (scratchOf (foundFor text file q (length (b .scratch))))
+  pub in-pixels : b′ .pixels ≡ sets (b .pixels) 0 (pixelsOf (readingIn text file q b))
+  pub in-words : b′ .words ≡ sets (b .words) 0 (bandsOf (readingIn text file q b))
+  pub in-canvas : b′ .canvas ≡ sets (b .canvas) 0 (paintedOf (readingIn text file q b))
+  pub exactly : Exactly text file q b (canvasAnswer (readingIn text file q b)) b′
+
+-- two files give a cue the same readings, and two calls return and leave the same
+pub record SameDecoded (text file other : List ℕ) (q : Wanted) (r t : ℕ) (b c : Lent) (start start′ : ℤ) (numbers numbers′ : List ℕ) : Type 0 where
+  pub readings : (x : Reading) → IsReading text file q x ↔ IsReading text other q x
+  pub refusal : r ≡ t
+  pub starts-at : start ≡ start′
+  pub told : numbers ≡ numbers′
+  pub scratch : b .scratch ≡ c .scratch
+  pub pixels : b .pixels ≡ c .pixels
+  pub words : b .words ≡ c .words
+  pub canvas : b .canvas ≡ c .canvas
+
+-- a file that differs from this one in packets of other streams alone, among those walked from the cue's position,
+-- gives the same (FORMAT 2.11)
+abbrev pub CueUndisturbed : List ℕ → List ℕ → Wanted → Lent → ℤ → List ℕ → ℕ → Lent → ℤ → List ℕ → Type 0
+CueUndisturbed text file q b start numbers r b′ start′ numbers′ =
+    (other : List ℕ) (ls : List Said) (c : Cue) (ps : List Packet) → IsText text ls → cueAt (cuesOf ls) (q .cue) ≡ some c
+    → Walk (wantedId q) file (c .position) [] ps → Alike (q .stream) file other ps
+    → (t : ℕ) (b″ : Lent) (start″ : ℤ) (numbers″ : List ℕ) → CueDecoded text other q b start numbers t b″ start″ numbers″
+    → SameDecoded text file other q r t b′ b″ start′ start″ numbers′ numbers″

@@ -11,8 +11,9 @@ use vobsub_numbers::cue_numbers_of;
 use vobsub_numbers::idx_numbers_of;
 use vobsub_numbers::numbers_of;
 use vobsub_numbers::shown_numbers_of;
+ghost use Rattle.grammar.specs.Reading.{wanted};
 ghost use Rattle.vobsub_model.specs.Call.{lent};
-ghost use Rattle.vobsub_c.specs.Answers.{BandsGiven, UnitExtracted, FieldDecoded, BodyFound, UnitDecoded, UnitWritten, IndexGiven, CueGiven, CueDecoded};
+ghost use Rattle.vobsub_c.specs.Answers.{BandsGiven, UnitExtracted, UnitUndisturbed, FieldDecoded, BodyFound, UnitDecoded, UnitWritten, IndexGiven, CueGiven, CueDecoded, CueUndisturbed};
 
 // The bands in a payload, stored from place `at` of the lent words on, and how many words they take.
 // Ruled out: a count set on a refusal; words before `at` changed.
@@ -34,19 +35,22 @@ pub extern "C" fn vobsub_parse_chg_colcon_payload(
     }
 }
 
-// The unit at a position of the file, its length, and whether it is in the front of scratch (1) or in the file (0).
+// The unit of a stream at a position of the file, its length, and whether it is in the front of scratch (1) or in the
+// file (0).
 // Ruled out: a length set on a refusal; a unit in scratch that is said to be in the file.
 #[no_mangle]
 pub extern "C" fn vobsub_extract_spu(
     file: &[u8],
     position: usize,
+    stream: usize,
     scratch: &mut [u8],
     length: &mut usize,
     joined: &mut u8,
 ) -> u8
-    ensures { λ r. ⌜ UnitExtracted (now (file .entry)) position (now (scratch .entry)) (now (length .entry)) (now (joined .entry)) r (now (scratch .exit)) (now (length .exit)) (now (joined .exit)) ⌝ }
+    ensures { λ r. ⌜ UnitExtracted (now (file .entry)) position stream (now (scratch .entry)) (now (length .entry)) (now (joined .entry)) r (now (scratch .exit)) (now (length .exit)) (now (joined .exit))
+        × UnitUndisturbed (now (file .entry)) position stream (now (scratch .entry)) (now (length .entry)) (now (joined .entry)) r (now (scratch .exit)) (now (length .exit)) (now (joined .exit)) ⌝ }
 {
-    match ps::extract_spu(file, position, scratch) {
+    match ps::extract_spu(file, position, stream, scratch) {
         UnitAnswer::Bare(n) => {
             *length = n;
             *joined = 0;
@@ -185,14 +189,16 @@ pub extern "C" fn vobsub_pick_cue(
     a.refused
 }
 
-// One cue of a title, from index text and file: its canvas in the front of `canvas`, its index map in the front of `pixels`, its bands in the
-// front of `words`, its unit in the front of `scratch` where packets hold it, its start, and its other numbers.
+// One cue of a title in one stream, from index text and file: its canvas in the front of `canvas`, its index map in the
+// front of `pixels`, its bands in the front of `words`, its unit in the front of `scratch` where packets hold it, its
+// start, and its other numbers.
 // Ruled out: a start or numbers set on a refusal; a canvas whose start is left as found.
 #[no_mangle]
 pub extern "C" fn vobsub_decode_cue(
     text: &[u8],
     file: &[u8],
     cue: usize,
+    stream: usize,
     scratch: &mut [u8],
     pixels: &mut [u8],
     words: &mut [u16],
@@ -200,9 +206,10 @@ pub extern "C" fn vobsub_decode_cue(
     start: &mut i64,
     numbers: &mut [u64; 9],
 ) -> u8
-    ensures { λ r. ⌜ CueDecoded (now (text .entry)) (now (file .entry)) cue (lent (now (scratch .entry)) (now (pixels .entry)) (now (words .entry)) (now (canvas .entry))) (now (start .entry)) (now (numbers .entry)) r (lent (now (scratch .exit)) (now (pixels .exit)) (now (words .exit)) (now (canvas .exit))) (now (start .exit)) (now (numbers .exit)) ⌝ }
+    ensures { λ r. ⌜ CueDecoded (now (text .entry)) (now (file .entry)) (wanted cue stream) (lent (now (scratch .entry)) (now (pixels .entry)) (now (words .entry)) (now (canvas .entry))) (now (start .entry)) (now (numbers .entry)) r (lent (now (scratch .exit)) (now (pixels .exit)) (now (words .exit)) (now (canvas .exit))) (now (start .exit)) (now (numbers .exit))
+        × CueUndisturbed (now (text .entry)) (now (file .entry)) (wanted cue stream) (lent (now (scratch .entry)) (now (pixels .entry)) (now (words .entry)) (now (canvas .entry))) (now (start .entry)) (now (numbers .entry)) r (lent (now (scratch .exit)) (now (pixels .exit)) (now (words .exit)) (now (canvas .exit))) (now (start .exit)) (now (numbers .exit)) ⌝ }
 {
-    match vobsub::decode_cue(text, file, cue, scratch, pixels, words, canvas) {
+    match vobsub::decode_cue(text, file, cue, stream, scratch, pixels, words, canvas) {
         CanvasAnswer::Paints(s) => {
             let from = s.start;
             *start = from;

@@ -1,15 +1,18 @@
 -- The call, step by step: a cue that is not there, a unit that is not found, and a unit that is. Assumes nothing.
-use Prim.Native.Nat.{ℕ, _-_}
+use Prim.Native.Nat.{ℕ}
 use native.Mathlib.Omega.{arith}
 use mathlib.Core.Path.{_≡_, refl, sym, ap, _∙_, subst}
+use mathlib.Core.Bool.{Bool, true, false, cond}
 use mathlib.Core.Option.{Option, some, none}
 use mathlib.Core.List.{List}
 use lib.ListN.{length}
 use lib.Seq.{sets}
-use Rattle.outcome.specs.Outcome.{Res, ok, refuse, mapRes, no-cue}
+use lib.Dec.{leb}
+use borrow.Author.Tests.{ne-eqb}
+use Rattle.outcome.specs.Outcome.{Res, ok, refuse, check, mapRes, bad-stream, no-cue}
 use Rattle.grammar.specs.Index.{Said}
 use Rattle.grammar.specs.IndexCues.{Cue, cuesOf, cueAt}
-use Rattle.grammar.specs.Packets.{Form, bare, packets, unitOf, subpicture}
+use Rattle.grammar.specs.Packets.{Form, bare, packets, unitOf, streamId, top-stream}
 use Rattle.grammar.specs.Record.{told}
 use Rattle.grammar.specs.Picture.{ListedUnit}
 use Rattle.grammar.specs.Reading.{Wanted, Reading, startAt, shown, mapOf, wordsOf, unitCanvas, canvasOf}
@@ -20,56 +23,80 @@ use Rattle.idx_model.specs.Claim.{GivesCue}
 use Rattle.idx_model.specs.declared.CueAnswer.{CueAnswer}
 use Rattle.idx_model.proofs.Claim.{picked, has}
 use Rattle.idx_model.proofs.Picks.{cue-in}
-use Rattle.ps_model.specs.Unit.{unitAt}
+use Rattle.idx_model.proofs.Refusals.{text-not-11}
+use Rattle.ps_model.specs.Unit.{unitAt, streamUnit}
 use Rattle.ps_model.specs.Answers.{formStored, unitGiven, unitStored, unitPart, Extracted}
 use Rattle.ps_model.specs.declared.UnitAnswer.{UnitAnswer}
 use Rattle.ps_model.specs.declared.UnitAnswer.the-variants as unit-answer
 use Rattle.ps_model.proofs.Grammar.{form-iff}
-use Rattle.ps_model.proofs.Claim.{unit-sound, unit-there}
+use Rattle.ps_model.proofs.Claim.{stream-sound, unit-there}
 use Rattle.spu_model.specs.Answers.{spuAnswer, unitMap, unitBands}
 use Rattle.grammar.specs.Reading.{wanted}
 use Rattle.vobsub_model.specs.Call.{Lent, lent, Found, found, foundFor, canvasIn, reading, readingIn}
-use Rattle.vobsub_model.specs.Answers.{canvasStored, shownOf, paintsOf, FoundPainted, shownGiven, canvasAnswer, scratchOf, pixelsOf, bandsOf, paintedOf, CuePainted}
-use Rattle.vobsub_model.specs.Claim.{Exactly}
+use Rattle.vobsub_model.specs.Answers.{canvasStored, shownOf, paintsOf, FoundPainted, firstRefusal, shownGiven, canvasAnswer, scratchOf, pixelsOf, bandsOf, paintedOf, CuePainted}
+use Rattle.vobsub_model.specs.Claim.{Exactly, Undisturbed}
 use Rattle.vobsub_model.proofs.Claim.{claim}
+use Rattle.vobsub_model.proofs.Streams.{undisturbed}
 use Rattle.vobsub_model.specs.declared.Shown.{Shown}
 use Rattle.vobsub_model.specs.declared.CanvasAnswer.{CanvasAnswer}
 use Rattle.vobsub_model.specs.declared.CanvasAnswer.the-variants as canvas-answer
 use Rattle.spu_model.specs.Unit.{countsOf}
 
-found-at : (text file : List ℕ) (cue n : ℕ) (ls : List Said) (at : Cue) (p : ℕ) → textOf text ≡ ok ls → cueAt (cuesOf ls) cue ≡ some at → p ≡ at .position
-    → foundFor text file (wanted cue) n ≡ mapRes (found ls) (unitAt subpicture file p n)
-unfolding foundFor
-found-at text file cue n ls at p e f g = rw (e, f, g)
+-- where the cue is there, its unit is that of the stream
+found-at : (text file : List ℕ) (cue stream n : ℕ) (ls : List Said) (at : Cue) (p : ℕ) → textOf text ≡ ok ls
+    → cueAt (cuesOf ls) cue ≡ some at → p ≡ at .position
+    → foundFor text file (wanted cue stream) n ≡ mapRes (found ls) (streamUnit stream file p n)
+unfolding foundFor streamUnit
+found-at text file cue stream n ls at p e f g = rw (e, f, g) (go (leb stream top-stream))
+  where
+    go : (t : Bool)
+        → check t bad-stream (mapRes (found ls) (unitAt (streamId stream) file (at .position) n)) ≡ mapRes (found ls) (check t bad-stream (unitAt (streamId stream) file (at .position) n))
+    go true = refl
+    go false = refl
 
-module _ (text file : List ℕ) (cue : ℕ) (s px ws cv : List ℕ) where
+module _ (text file : List ℕ) (cue stream : ℕ) (s px ws cv : List ℕ) where
   abbrev before : Lent
   before = lent s px ws cv
 
   -- a unit that is not found: nothing is stored
-  refused-all : (n : ℕ) → foundFor text file (wanted cue) (length s) ≡ refuse n → CuePainted text file (wanted cue) before (canvas-answer.Refused n) before
+  refused-all : (n : ℕ) → foundFor text file (wanted cue stream) (length s) ≡ refuse n
+      → CuePainted text file (wanted cue stream) before (canvas-answer.Refused n) before
   unfolding readingIn
   refused-all n e = record { answer = rw e; in-scratch = rw e; in-pixels = rw e; in-words = rw e; in-canvas = rw e }
 
   module _ (c : CueAnswer) (e : c ≡ cueAnswer (pickOf (textOf text) cue)) where
-    -- the cue is not there
-    pub cue-refused : (c .refused ≡ 0 → ⊥) → CuePainted text file (wanted cue) before (canvas-answer.Refused (c .refused)) before
+    -- the text is refused, or the cue is not there
+    refused-first : (c .refused ≡ 0 → ⊥)
+        → CuePainted text file (wanted cue stream) before (canvas-answer.Refused (firstRefusal (c .refused) stream)) before
     unfolding pickOf cueAnswer foundFor
-    cue-refused h = go (textOf text) refl
+    refused-first h = go (textOf text) refl
       where
-        with-cue : (ls : List Said) → textOf text ≡ ok ls → (o : Option Cue) → cueAt (cuesOf ls) cue ≡ o → CuePainted text file (wanted cue) before (canvas-answer.Refused (c .refused)) before
+        -- by whether there is such a stream
+        with-stream : (ls : List Said) → textOf text ≡ ok ls → cueAt (cuesOf ls) cue ≡ none → (t : Bool)
+            → leb stream top-stream ≡ t
+            → CuePainted text file (wanted cue stream) before (canvas-answer.Refused (cond t no-cue bad-stream)) before
+        with-stream ls q f true u = refused-all no-cue (rw (q, u, f))
+        with-stream ls q f false u = refused-all bad-stream (rw (q, u))
+
+        with-cue : (ls : List Said) → textOf text ≡ ok ls → (o : Option Cue) → cueAt (cuesOf ls) cue ≡ o
+            → CuePainted text file (wanted cue stream) before (canvas-answer.Refused (firstRefusal (c .refused) stream)) before
         with-cue ls q (some a) f = absurd (h (picked text cue c e ls q a f .0))
         with-cue ls q none f =
             let p : pickOf (textOf text) cue ≡ refuse no-cue = rw (q, f) in
             let z : c .refused ≡ no-cue = ap (λ (a : CueAnswer). a .refused) (e ∙ ap cueAnswer p) in
-            rw z (refused-all no-cue (rw (q, f)))
+            rw z (with-stream ls q f (leb stream top-stream) refl)
 
-        go : (r : Res (List Said)) → textOf text ≡ r → CuePainted text file (wanted cue) before (canvas-answer.Refused (c .refused)) before
+        go : (r : Res (List Said)) → textOf text ≡ r
+            → CuePainted text file (wanted cue stream) before (canvas-answer.Refused (firstRefusal (c .refused) stream)) before
         go (refuse n) q =
             let p : pickOf (textOf text) cue ≡ refuse n = rw q in
             let z : c .refused ≡ n = ap (λ (a : CueAnswer). a .refused) (e ∙ ap cueAnswer p) in
-            rw z (refused-all n (rw q))
+            rw (z, ne-eqb n no-cue (text-not-11 none text n q)) (refused-all n (rw q))
         go (ok ls) q = with-cue ls q (cueAt (cuesOf ls) cue) refl
+
+    pub cue-refused : (c .refused ≡ 0 → ⊥) → (n : ℕ) → n ≡ firstRefusal (c .refused) stream
+        → CuePainted text file (wanted cue stream) before (canvas-answer.Refused n) before
+    cue-refused h n q = subst (λ (k : ℕ). CuePainted text file (wanted cue stream) before (canvas-answer.Refused k) before) (sym q) (refused-first h)
 
     -- the cue is there
     module _ (h : c .refused ≡ 0) where
@@ -88,25 +115,28 @@ module _ (text file : List ℕ) (cue : ℕ) (s px ws cv : List ℕ) where
       gives : GivesCue ls cue at c
       gives = picked text cue c e ls lines-are at cue-is .1
 
-      found-is : foundFor text file (wanted cue) (length s) ≡ mapRes (found ls) (unitAt subpicture file (c .position) (length s))
-      found-is = found-at text file cue (length s) ls at (c .position) lines-are cue-is (gives .position)
+      found-is : foundFor text file (wanted cue stream) (length s) ≡ mapRes (found ls) (streamUnit stream file (c .position) (length s))
+      found-is = found-at text file cue stream (length s) ls at (c .position) lines-are cue-is (gives .position)
 
       -- and its unit is not found
-      pub unit-none : (r : UnitAnswer) (n : ℕ) (s′ : List ℕ) → Extracted file (c .position) s r s′ → r ≡ unit-answer.Refused n
-          → CuePainted text file (wanted cue) before (canvas-answer.Refused n) (lent s′ px ws cv)
-      unit-none r n s′ d q = go (unitAt subpicture file (c .position) (length s)) refl (sym q ∙ d .answer) (d .scratch)
+      pub unit-none : (r : UnitAnswer) (n : ℕ) (s′ : List ℕ) → Extracted file (c .position) stream s r s′
+          → r ≡ unit-answer.Refused n
+          → CuePainted text file (wanted cue stream) before (canvas-answer.Refused n) (lent s′ px ws cv)
+      unit-none r n s′ d q = go (streamUnit stream file (c .position) (length s)) refl (sym q ∙ d .answer) (d .scratch)
         where
-          go : (x : Res Form) → unitAt subpicture file (c .position) (length s) ≡ x → unit-answer.Refused n ≡ unitGiven x → s′ ≡ sets s 0 (unitStored x)
-              → CuePainted text file (wanted cue) before (canvas-answer.Refused n) (lent s′ px ws cv)
+          go : (x : Res Form) → streamUnit stream file (c .position) (length s) ≡ x
+              → unit-answer.Refused n ≡ unitGiven x → s′ ≡ sets s 0 (unitStored x)
+              → CuePainted text file (wanted cue stream) before (canvas-answer.Refused n) (lent s′ px ws cv)
           go (ok (bare u)) f g k = let z : _≡_ {A = ℕ} 0 1 = cc in absurd (omega arith)
           go (ok (packets ps)) f g k = let z : _≡_ {A = ℕ} 0 1 = cc in absurd (omega arith)
           go (refuse m) f g k =
               let z : n ≡ m = cc in
-              subst (λ (l : List ℕ). CuePainted text file (wanted cue) before (canvas-answer.Refused n) (lent l px ws cv)) (sym k)
+              subst (λ (l : List ℕ). CuePainted text file (wanted cue stream) before (canvas-answer.Refused n) (lent l px ws cv)) (sym k)
               (refused-all n (found-is ∙ ap (mapRes (found ls)) f ∙ ap refuse (sym z)))
 
       -- what is shown is what the reading shows
-      shown-is : (m : Form) (l : ListedUnit) → shownOf c (spuOf (told (l .blocks)) (countsOf l)) ≡ shownGiven (shown (reading (wanted cue) (found ls m) l))
+      shown-is : (m : Form) (l : ListedUnit)
+          → shownOf c (spuOf (told (l .blocks)) (countsOf l)) ≡ shownGiven (shown (reading (wanted cue stream) (found ls m) l))
       unfolding shownGiven shown spuOf
       shown-is m l =
           let z : c .start ≡ startAt (cueAt (cuesOf ls) cue) = gives .start ∙ ap startAt (sym cue-is) in
@@ -124,13 +154,14 @@ module _ (text file : List ℕ) (cue : ℕ) (s px ws cv : List ℕ) where
             counts = t .counts;
           }
 
-      module _ (m : Form) (f : unitAt subpicture file (c .position) (length s) ≡ ok m) where
-        reads : readingIn text file (wanted cue) before ≡ mapRes (reading (wanted cue) (found ls m)) (canvasIn (unitOf m) (length px) (length ws) (length cv))
+      module _ (m : Form) (f : streamUnit stream file (c .position) (length s) ≡ ok m) where
+        reads : readingIn text file (wanted cue stream) before ≡ mapRes (reading (wanted cue stream) (found ls m)) (canvasIn (unitOf m) (length px) (length ws) (length cv))
         unfolding readingIn
         reads = rw (found-is ∙ ap (mapRes (found ls)) f)
 
-        painted-all : (a : CanvasAnswer) (s′ px′ ws′ cv′ : List ℕ) → s′ ≡ sets s 0 (formStored m) → FoundPainted (unitOf m) c px ws cv a px′ ws′ cv′
-            → CuePainted text file (wanted cue) before a (lent s′ px′ ws′ cv′)
+        painted-all : (a : CanvasAnswer) (s′ px′ ws′ cv′ : List ℕ) → s′ ≡ sets s 0 (formStored m)
+            → FoundPainted (unitOf m) c px ws cv a px′ ws′ cv′
+            → CuePainted text file (wanted cue stream) before a (lent s′ px′ ws′ cv′)
         unfolding mapOf wordsOf canvasOf
         painted-all a s′ px′ ws′ cv′ k d =
             record {
@@ -141,40 +172,45 @@ module _ (text file : List ℕ) (cue : ℕ) (s px ws cv : List ℕ) where
               in-canvas = d .painted .canvas ∙ ap (sets cv 0) (canvases (canvasIn (unitOf m) (length px) (length ws) (length cv))) ∙ ap (λ (x : Res Reading). sets cv 0 (paintedOf x)) (sym reads);
             }
           where
-            answers : (x : Res ListedUnit) → paintsOf c (spuAnswer x) ≡ canvasAnswer (mapRes (reading (wanted cue) (found ls m)) x)
+            answers : (x : Res ListedUnit)
+                → paintsOf c (spuAnswer x) ≡ canvasAnswer (mapRes (reading (wanted cue stream) (found ls m)) x)
             answers (ok l) = ap canvas-answer.Paints (shown-is m l)
             answers (refuse n) = refl
 
-            maps : (x : Res ListedUnit) → unitMap x ≡ pixelsOf (mapRes (reading (wanted cue) (found ls m)) x)
+            maps : (x : Res ListedUnit) → unitMap x ≡ pixelsOf (mapRes (reading (wanted cue stream) (found ls m)) x)
             maps (ok l) = refl
             maps (refuse n) = refl
 
-            bands : (x : Res ListedUnit) → unitBands x ≡ bandsOf (mapRes (reading (wanted cue) (found ls m)) x)
+            bands : (x : Res ListedUnit) → unitBands x ≡ bandsOf (mapRes (reading (wanted cue stream) (found ls m)) x)
             bands (ok l) = refl
             bands (refuse n) = refl
 
-            canvases : (x : Res ListedUnit) → canvasStored (c .palette) x ≡ paintedOf (mapRes (reading (wanted cue) (found ls m)) x)
+            canvases : (x : Res ListedUnit)
+                → canvasStored (c .palette) x ≡ paintedOf (mapRes (reading (wanted cue stream) (found ls m)) x)
             canvases (ok l) = ap (λ (p : List ℕ). unitCanvas p l) (gives .palette)
             canvases (refuse n) = refl
 
       -- its unit is found, and painted
-      pub unit-some : (r : UnitAnswer) (s′ : List ℕ) → Extracted file (c .position) s r s′ → ((n : ℕ) → r ≡ unit-answer.Refused n → ⊥)
+      pub unit-some : (r : UnitAnswer) (s′ : List ℕ) → Extracted file (c .position) stream s r s′
+          → ((n : ℕ) → r ≡ unit-answer.Refused n → ⊥)
           → (a : CanvasAnswer) (px′ ws′ cv′ : List ℕ) → FoundPainted (unitPart file s′ (c .position) r) c px ws cv a px′ ws′ cv′
-          → CuePainted text file (wanted cue) before a (lent s′ px′ ws′ cv′)
-      unit-some r s′ d o a px′ ws′ cv′ p = go (unitAt subpicture file (c .position) (length s)) refl (d .answer) (d .scratch)
+          → CuePainted text file (wanted cue stream) before a (lent s′ px′ ws′ cv′)
+      unit-some r s′ d o a px′ ws′ cv′ p = go (streamUnit stream file (c .position) (length s)) refl (d .answer) (d .scratch)
         where
-          go : (x : Res Form) → unitAt subpicture file (c .position) (length s) ≡ x → r ≡ unitGiven x → s′ ≡ sets s 0 (unitStored x)
-              → CuePainted text file (wanted cue) before a (lent s′ px′ ws′ cv′)
+          go : (x : Res Form) → streamUnit stream file (c .position) (length s) ≡ x → r ≡ unitGiven x
+              → s′ ≡ sets s 0 (unitStored x)
+              → CuePainted text file (wanted cue stream) before a (lent s′ px′ ws′ cv′)
           go (refuse n) f g k = absurd (o n g)
           go (ok m) f g k =
-              let t = unit-sound file (c .position) (length s) m f in
-              let i = form-iff subpicture file (c .position) m .0 (t .0) in
+              let t = stream-sound file (c .position) stream (length s) m f in
+              let i = form-iff (streamId stream) file (c .position) m .0 (t .1) in
               let u : unitPart file s′ (c .position) r ≡ unitOf m =
               ap (λ (x : List ℕ). unitPart file x (c .position) r) k
               ∙ ap (unitPart file (sets s 0 (formStored m)) (c .position)) g
-              ∙ unit-there file (c .position) s m (i .1) (t .1) in
+              ∙ unit-there (streamId stream) file (c .position) s m (i .1) (t .2) in
               painted-all m f a s′ px′ ws′ cv′ k (subst (λ (x : List ℕ). FoundPainted x c px ws cv a px′ ws′ cv′) u p)
 
--- with the claim
-pub kept : (text file : List ℕ) (q : Wanted) (b : Lent) (r : CanvasAnswer) (b′ : Lent) → CuePainted text file q b r b′ → CuePainted text file q b r b′ × Exactly text file q b r b′
-kept text file q b r b′ d = (d, claim text file q b r b′ d)
+-- with both claims
+pub kept : (text file : List ℕ) (q : Wanted) (b : Lent) (r : CanvasAnswer) (b′ : Lent) → CuePainted text file q b r b′
+    → CuePainted text file q b r b′ × Exactly text file q b r b′ × Undisturbed text file q b r b′
+kept text file q b r b′ d = (d, claim text file q b r b′ d, undisturbed text file q b r b′ d)

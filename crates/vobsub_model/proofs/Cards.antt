@@ -34,7 +34,7 @@ use Rattle.vobsub_model.specs.Call.{lent, foundFor, canvasIn, readingIn}
 use Rattle.vobsub_model.specs.Answers.{canvasStored, shownOf, shownGiven, paintedOf}
 
 -- `timestamp:0,filepos:0` and the unit `00 04 00 04`, with a map of one pixel and its canvas, are not refused
-pub least-title : refusalOf (readingIn (116 ∷ 105 ∷ 109 ∷ 101 ∷ 115 ∷ 116 ∷ 97 ∷ 109 ∷ 112 ∷ 58 ∷ 48 ∷ 44 ∷ 102 ∷ 105 ∷ 108 ∷ 101 ∷ 112 ∷ 111 ∷ 115 ∷ 58 ∷ 48 ∷ []) (0x00 ∷ 0x04 ∷ 0x00 ∷ 0x04 ∷ []) (wanted 0) (lent [] (9 ∷ []) [] (9 ∷ 9 ∷ 9 ∷ 9 ∷ []))) ≡ 0
+pub least-title : refusalOf (readingIn (116 ∷ 105 ∷ 109 ∷ 101 ∷ 115 ∷ 116 ∷ 97 ∷ 109 ∷ 112 ∷ 58 ∷ 48 ∷ 44 ∷ 102 ∷ 105 ∷ 108 ∷ 101 ∷ 112 ∷ 111 ∷ 115 ∷ 58 ∷ 48 ∷ []) (0x00 ∷ 0x04 ∷ 0x00 ∷ 0x04 ∷ []) (wanted 0 0) (lent [] (9 ∷ []) [] (9 ∷ 9 ∷ 9 ∷ 9 ∷ []))) ≡ 0
 unfolding readingIn foundFor canvasIn textIn linesIn lineOf strip trim front rest shorn split partsAt firstOf lastOf fields steps unsigned signed bare all numeral startOf cuesOf cueAt unitAt formAt isBare unitOf word bandWords rowsAt fieldsAt lowerAt fieldAt rowAt codeAt codeFrom rowsFrom weave paints afterCodes align topEnd listFrom listFuel nibbles nibble plainAt changeAt orderAt commandAt commandsAt blockAt blocksAt headFits chainAt controlAt told commandsOf commandsIn firstDelay lastDelay lastNumbers stands allBands
 least-title = refl
 

@@ -1,5 +1,5 @@
 -- The call keeps its claim on whole files: a reading is found within lent lengths exactly where it is one and they are long enough, and no
--- files have two for one cue. Assumes nothing.
+-- files have two for one cue and stream. Assumes nothing.
 use Prim.Native.Nat.{ℕ, _*_, _≤_}
 use mathlib.Core.Path.{_≡_, refl, sym, ap, _∙_, subst}
 use mathlib.Core.Logic.{_↔_}
@@ -9,12 +9,12 @@ use lib.ListN.{length}
 use lib.Dec.{leb}
 use lib.Seq.{sets}
 use borrow.Author.Tests.{leb-true, le-leb}
-use Rattle.outcome.specs.Outcome.{Res, ok, refuse, need, no-cue, short-pixels, short-words, short-canvas}
+use Rattle.outcome.specs.Outcome.{Res, ok, refuse, need, bad-stream, no-cue, short-pixels, short-words, short-canvas}
 use Rattle.grammar.proofs.Lengths.{reading-map, reading-canvas}
 use Rattle.outcome.proofs.Laws.{andThen-ok, check-ok, mapRes-ok, need-some}
 use Rattle.grammar.specs.Index.{Said}
 use Rattle.grammar.specs.IndexCues.{Cue, cuesOf, cueAt}
-use Rattle.grammar.specs.Packets.{Form, IsForm, unitOf}
+use Rattle.grammar.specs.Packets.{Form, IsForm, unitOf, top-stream}
 use Rattle.grammar.specs.Bands.{bandWords}
 use Rattle.grammar.specs.Record.{told, width, height}
 use Rattle.grammar.specs.Picture.{ListedUnit, IsUnit}
@@ -68,6 +68,7 @@ canvas-complete u n m k l e h i j =
 -- the lines, the cue and the unit's form
 record Founded (text file : List ℕ) (q : Wanted) (n : ℕ) (f : Found) : Type 0 where
   lines-are : textOf text ≡ ok (f .lines)
+  stream-is : q .stream ≤ top-stream
   at : Cue
   cue-is : cueAt (cuesOf (f .lines)) (q .cue) ≡ some at
   form-is : unitAt (wantedId q) file (at .position) n ≡ ok (f .form)
@@ -76,12 +77,14 @@ found-sound : (text file : List ℕ) (q : Wanted) (n : ℕ) (f : Found) → foun
 unfolding foundFor
 found-sound text file q n f e =
     let a = andThen-ok (textOf text) _ e in
-    let b = andThen-ok (need no-cue (cueAt (cuesOf (a .0)) (q .cue))) _ (a .2) in
+    let s = check-ok (leb (q .stream) top-stream) bad-stream _ (a .2) in
+    let b = andThen-ok (need no-cue (cueAt (cuesOf (a .0)) (q .cue))) _ (s .1) in
     let c = mapRes-ok (found (a .0)) (unitAt (wantedId q) file (b .0 .position) n) (b .2) in
     let l : a .0 ≡ f .lines = ap (λ (x : Found). x .lines) (c .2) in
     let m : c .0 ≡ f .form = ap (λ (x : Found). x .form) (c .2) in
     record {
       lines-are = a .1 ∙ ap ok l;
+      stream-is = leb-true _ _ (s .0);
       at = b .0;
       cue-is = ap (λ (x : List Said). cueAt (cuesOf x) (q .cue)) (sym l) ∙ need-some no-cue (cueAt (cuesOf (a .0)) (q .cue)) (b .1);
       form-is = c .1 ∙ ap ok m;
@@ -96,13 +99,14 @@ module _ (text file : List ℕ) (q : Wanted) where
       let f = a .0 in
       let w = mapRes-ok (reading q f) (canvasIn (unitOf (f .form)) (length (b .pixels)) (length (b .words)) (length (b .canvas))) (a .2) in
       let g = found-sound text file q (length (b .scratch)) f (a .1) in
-      let u = unit-sound file (g .at .position) (length (b .scratch)) (f .form) (g .form-is) in
+      let u = unit-sound (wantedId q) file (g .at .position) (length (b .scratch)) (f .form) (g .form-is) in
       let i = form-iff (wantedId q) file (g .at .position) (f .form) .0 (u .0) in
       let c = canvas-sound (unitOf (f .form)) (length (b .pixels)) (length (b .words)) (length (b .canvas)) (w .0) (w .1) in
       subst (λ (y : Reading). IsReading text file q y × Room y b) (w .2) (
         record {
           text-is = text-iff text (f .lines) .0 (g .lines-are);
           cue-is = refl;
+          stream-is = g .stream-is;
           at = g .at;
           listed = g .cue-is;
           before-end = i .0;
@@ -118,14 +122,14 @@ module _ (text file : List ℕ) (q : Wanted) where
   complete b x h r =
       let t = text-iff text (x .lines) .1 (h .text-is) in
       let k : cueAt (cuesOf (x .lines)) (q .cue) ≡ some (h .at) = ap (cueAt (cuesOf (x .lines))) (sym (h .cue-is)) ∙ h .listed in
-      let m = unit-complete file (h .at .position) (length (b .scratch)) (x .form) (form-iff (wantedId q) file (h .at .position) (x .form) .1 (h .before-end, h .form-is)) (r .for-unit) in
+      let m = unit-complete (wantedId q) file (h .at .position) (length (b .scratch)) (x .form) (form-iff (wantedId q) file (h .at .position) (x .form) .1 (h .before-end, h .form-is)) (r .for-unit) in
       let c = canvas-complete (unitOf (x .form)) (length (b .pixels)) (length (b .words)) (length (b .canvas)) (x .unit) (unit-iff (unitOf (x .form)) (x .unit) .1 (h .unit-is)) (r .for-map) (r .for-bands) (r .for-canvas) in
-      rw (t, k, m, c) (λ i. ok (record { lines = x .lines; cue = sym (h .cue-is) i; form = x .form; unit = x .unit }))
+      rw (t, le-leb (q .stream) top-stream (h .stream-is), k, m, c) (λ i. ok (record { lines = x .lines; cue = sym (h .cue-is) i; form = x .form; unit = x .unit }))
 
   pub reading-iff : (b : Lent) (x : Reading) → (readingIn text file q b ≡ ok x) ↔ (IsReading text file q x × Room x b)
   reading-iff b x = (sound b x, λ h. complete b x (h .0) (h .1))
 
-  -- no files have two readings for one cue
+  -- no files have two readings for one cue and stream
   pub no-two : (x y : Reading) → IsReading text file q x → IsReading text file q y → x ≡ y
   no-two x y h k =
       let l : x .lines ≡ y .lines = text-unique text (x .lines) (y .lines) (h .text-is) (k .text-is) in

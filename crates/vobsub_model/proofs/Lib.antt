@@ -5,3 +5,4 @@ pub mod Claim
 pub mod Call
 pub mod Refusals
 pub mod Cards
+pub mod Streams

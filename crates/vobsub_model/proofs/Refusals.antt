@@ -5,12 +5,12 @@ use mathlib.Core.Option.{none}
 use mathlib.Core.List.{List, [], _∷_}
 use lib.Dec.{leb}
 use lib.ListN.{length}
-use Rattle.outcome.specs.Outcome.{Numbered, need, no-cue, short-pixels, short-words, short-canvas, refuse, bad-position, short-scratch, no-area}
+use Rattle.outcome.specs.Outcome.{InTable, Numbered, need, bad-stream, no-cue, short-pixels, short-words, short-canvas, refuse, bad-position, short-scratch, no-area}
 use Rattle.outcome.proofs.Numbers.{in-table, check-numbered, need-numbered, andThen-numbered, mapRes-numbered}
 use Rattle.grammar.specs.Bands.{bandWords, entryWords}
 use Rattle.grammar.specs.Record.{told, width, height, commandsOf, commandsIn, firstDelay, lastDelay, lastNumbers, stands, allBands}
 use Rattle.grammar.specs.IndexCues.{cuesOf, cueAt}
-use Rattle.grammar.specs.Packets.{unitOf, joined}
+use Rattle.grammar.specs.Packets.{unitOf, joined, top-stream}
 use Rattle.grammar.specs.Reading.{Wanted, wantedId, wanted}
 use Rattle.idx_model.specs.Text.{textOf, linesIn, textIn}
 use Rattle.idx_model.proofs.Refusals.{text-numbered}
@@ -36,35 +36,45 @@ use Rattle.control_model.specs.Listed.{held, bandsAt}
 found-numbered : (text file : List ℕ) (q : Wanted) (n : ℕ) → Numbered (foundFor text file q n)
 unfolding foundFor
 found-numbered text file q n =
-    andThen-numbered (textOf text) _ (text-numbered none text)
-    (λ ls. andThen-numbered (need no-cue (cueAt (cuesOf ls) (q .cue))) _ (need-numbered no-cue (cueAt (cuesOf ls) (q .cue)) (in-table no-cue refl))
-    (λ c. mapRes-numbered (found ls) (unitAt (wantedId q) file (c .position) n) (ps.unit-numbered file (c .position) n)))
+    andThen-numbered InTable (textOf text) _ (text-numbered none text)
+    (λ ls. check-numbered InTable (leb (q .stream) top-stream) bad-stream _ (in-table bad-stream refl)
+    (andThen-numbered InTable (need no-cue (cueAt (cuesOf ls) (q .cue))) _ (need-numbered InTable no-cue (cueAt (cuesOf ls) (q .cue)) (in-table no-cue refl))
+    (λ c. mapRes-numbered InTable (found ls) (unitAt (wantedId q) file (c .position) n) (ps.unit-numbered (wantedId q) file (c .position) n))))
 
 canvas-numbered : (u : List ℕ) (n m k : ℕ) → Numbered (canvasIn u n m k)
 unfolding canvasIn
 canvas-numbered u n m k =
-    andThen-numbered (controlAt u) _ (control-numbered u)
-    (λ bs. check-numbered (leb (width (told bs) * height (told bs)) n) short-pixels _ (in-table short-pixels refl)
-    (check-numbered (leb (length (bandWords (told bs .bands))) m) short-words _ (in-table short-words refl)
-    (check-numbered (leb (4 * (width (told bs) * height (told bs))) k) short-canvas _ (in-table short-canvas refl)
-    (mapRes-numbered (listedUnit bs) (rowsAt u (told bs)) (rows-numbered u (told bs))))))
+    andThen-numbered InTable (controlAt u) _ (control-numbered u)
+    (λ bs. check-numbered InTable (leb (width (told bs) * height (told bs)) n) short-pixels _ (in-table short-pixels refl)
+    (check-numbered InTable (leb (length (bandWords (told bs .bands))) m) short-words _ (in-table short-words refl)
+    (check-numbered InTable (leb (4 * (width (told bs) * height (told bs))) k) short-canvas _ (in-table short-canvas refl)
+    (mapRes-numbered InTable (listedUnit bs) (rowsAt u (told bs)) (rows-numbered u (told bs))))))
 
 pub reading-numbered : (text file : List ℕ) (q : Wanted) (b : Lent) → Numbered (readingIn text file q b)
 unfolding readingIn
 reading-numbered text file q b =
-    andThen-numbered (foundFor text file q (length (b .scratch))) _ (found-numbered text file q (length (b .scratch)))
-    (λ f. mapRes-numbered (reading q f) (canvasIn (unitOf (f .form)) (length (b .pixels)) (length (b .words)) (length (b .canvas))) (canvas-numbered (unitOf (f .form)) (length (b .pixels)) (length (b .words)) (length (b .canvas))))
+    andThen-numbered InTable (foundFor text file q (length (b .scratch))) _ (found-numbered text file q (length (b .scratch)))
+    (λ f. mapRes-numbered InTable (reading q f) (canvasIn (unitOf (f .form)) (length (b .pixels)) (length (b .words)) (length (b .canvas))) (canvas-numbered (unitOf (f .form)) (length (b .pixels)) (length (b .words)) (length (b .canvas))))
 
--- each order of FORMAT 9 up to the unit: a text, a file, a cue and a length of scratch on which both are true, and the number that is given
+-- each order of FORMAT 9 up to the unit: a text, a file, a cue, a stream and a length of scratch on which both are
+-- true, and the number that is given
 pub orders :
+    -- 9, and 32: `timestamp:0,filepos:`
+    (foundFor (116 ∷ 105 ∷ 109 ∷ 101 ∷ 115 ∷ 116 ∷ 97 ∷ 109 ∷ 112 ∷ 58 ∷ 48 ∷ 44 ∷ 102 ∷ 105 ∷ 108 ∷ 101 ∷ 112 ∷ 111 ∷ 115 ∷ 58 ∷ []) [] (wanted 0 32) 0 ≡ refuse bad-position)
+    -- and in a later line: `timestamp:0,filepos:0`, `timestamp:0,filepos:`
+    × (foundFor (116 ∷ 105 ∷ 109 ∷ 101 ∷ 115 ∷ 116 ∷ 97 ∷ 109 ∷ 112 ∷ 58 ∷ 48 ∷ 44 ∷ 102 ∷ 105 ∷ 108 ∷ 101 ∷ 112 ∷ 111 ∷ 115 ∷ 58 ∷ 48 ∷ 10 ∷ 116 ∷ 105 ∷ 109 ∷ 101 ∷ 115 ∷ 116 ∷ 97 ∷ 109 ∷ 112 ∷ 58 ∷ 48 ∷ 44 ∷ 102 ∷ 105 ∷ 108 ∷ 101 ∷ 112 ∷ 111 ∷ 115 ∷ 58 ∷ []) [] (wanted 0 32) 0 ≡ refuse bad-position)
+    -- 32, and 11: no cue
+    × (foundFor [] [] (wanted 0 32) 0 ≡ refuse bad-stream)
+    -- 32, and 12: `timestamp:0,filepos:0`, and no file
+    × (foundFor (116 ∷ 105 ∷ 109 ∷ 101 ∷ 115 ∷ 116 ∷ 97 ∷ 109 ∷ 112 ∷ 58 ∷ 48 ∷ 44 ∷ 102 ∷ 105 ∷ 108 ∷ 101 ∷ 112 ∷ 111 ∷ 115 ∷ 58 ∷ 48 ∷ []) [] (wanted 0 32) 0 ≡ refuse bad-stream)
     -- 11, and 12: no cue, and no file
-    (foundFor [] [] (wanted 0) 0 ≡ refuse no-cue)
+    × (foundFor [] [] (wanted 0 0) 0 ≡ refuse no-cue)
     -- 9, and 11: `timestamp:0,filepos:`, and cue 7
-    × (foundFor (116 ∷ 105 ∷ 109 ∷ 101 ∷ 115 ∷ 116 ∷ 97 ∷ 109 ∷ 112 ∷ 58 ∷ 48 ∷ 44 ∷ 102 ∷ 105 ∷ 108 ∷ 101 ∷ 112 ∷ 111 ∷ 115 ∷ 58 ∷ []) [] (wanted 7) 0 ≡ refuse bad-position)
+    × (foundFor (116 ∷ 105 ∷ 109 ∷ 101 ∷ 115 ∷ 116 ∷ 97 ∷ 109 ∷ 112 ∷ 58 ∷ 48 ∷ 44 ∷ 102 ∷ 105 ∷ 108 ∷ 101 ∷ 112 ∷ 111 ∷ 115 ∷ 58 ∷ []) [] (wanted 7 0) 0 ≡ refuse bad-position)
     -- 14, and 15: a packet that keeps a unit of 3 bytes, and 2 bytes of scratch
-    × (foundFor (116 ∷ 105 ∷ 109 ∷ 101 ∷ 115 ∷ 116 ∷ 97 ∷ 109 ∷ 112 ∷ 58 ∷ 48 ∷ 44 ∷ 102 ∷ 105 ∷ 108 ∷ 101 ∷ 112 ∷ 111 ∷ 115 ∷ 58 ∷ 48 ∷ []) (0x00 ∷ 0x00 ∷ 0x01 ∷ 0xBD ∷ 0x00 ∷ 0x07 ∷ 0x80 ∷ 0x00 ∷ 0x00 ∷ 0x20 ∷ 0x00 ∷ 0x03 ∷ 0x00 ∷ []) (wanted 0) 2 ≡ refuse short-scratch)
+    × (foundFor (116 ∷ 105 ∷ 109 ∷ 101 ∷ 115 ∷ 116 ∷ 97 ∷ 109 ∷ 112 ∷ 58 ∷ 48 ∷ 44 ∷ 102 ∷ 105 ∷ 108 ∷ 101 ∷ 112 ∷ 111 ∷ 115 ∷ 58 ∷ 48 ∷ []) (0x00 ∷ 0x00 ∷ 0x01 ∷ 0xBD ∷ 0x00 ∷ 0x07 ∷ 0x80 ∷ 0x00 ∷ 0x00 ∷ 0x20 ∷ 0x00 ∷ 0x03 ∷ 0x00 ∷ []) (wanted 0 0) 2 ≡ refuse short-scratch)
 unfolding foundFor unitAt formAt isBare packetsAt packetAt kindAt privateAt packAt keptAt bodyAt headerAt header1At leading listFrom listFuel word joined unitOf textIn linesIn lineOf tokens strip trim front rest shorn split partsAt firstOf lastOf fields steps unsigned signed bare all numeral startOf cuesOf cueAt
-orders = (refl, refl, refl)
+orders = (refl, refl, refl, refl, refl, refl, refl)
 
 -- a unit with one byte of field and one block, of these bytes after its head
 abbrev unit : List ℕ → List ℕ

@@ -1,10 +1,13 @@
 -- What each answer of the code means, and what the lent buffers hold after a call (FORMAT 6.5, 6.6). Assumes nothing: these are definitions.
 use Prim.Native.Nat.{ℕ, _+_, _-_}
 use mathlib.Core.Path.{_≡_}
+use mathlib.Core.Bool.{cond}
 use mathlib.Core.List.{List, []}
+use lib.Dec.{eqb, leb}
 use lib.ListN.{length}
 use lib.Seq.{sets}
-use Rattle.outcome.specs.Outcome.{Res, ok, refuse}
+use Rattle.outcome.specs.Outcome.{Res, ok, refuse, bad-stream, no-cue}
+use Rattle.grammar.specs.Packets.{top-stream}
 use Rattle.grammar.specs.Picture.{ListedUnit}
 use Rattle.grammar.specs.Reading.{Wanted, Reading, shown, mapOf, wordsOf, unitCanvas, canvasOf}
 use Rattle.grammar.specs.Reading as grammar-reading
@@ -61,6 +64,11 @@ pub record FoundPainted (u : List ℕ) (c : CueAnswer) (px ws cv : List ℕ) (r 
   pub painted : UnitPainted u (c .palette) px ws cv says px′ ws′ cv′
 
 -- ---- The whole call
+
+-- the refusal n of a text or a cue, where stream s is asked for: a stream above the greatest comes after the text and
+-- before the cue
+abbrev pub firstRefusal : ℕ → ℕ → ℕ
+firstRefusal n s = cond (eqb n no-cue) (cond (leb s top-stream) n bad-stream) n
 
 -- what a reading shows
 unfoldable pub shownGiven : grammar-reading.Shown → Shown

@@ -1,13 +1,13 @@
--- The call: a cue's reading within lent lengths, found, or the number of the first refusal (FORMAT 6.4, section 9).
--- What is asked first refuses first. Assumes nothing: these are definitions.
+-- The call: a reading of a cue and a stream within lent lengths, found, or the number of the first refusal (FORMAT 6.4,
+-- section 9). What is asked first refuses first. Assumes nothing: these are definitions.
 use Prim.Native.Nat.{ℕ, _*_}
 use mathlib.Core.List.{List}
 use lib.Dec.{leb}
 use lib.ListN.{length}
-use Rattle.outcome.specs.Outcome.{Res, check, need, andThen, mapRes, no-cue, short-pixels, short-words, short-canvas}
+use Rattle.outcome.specs.Outcome.{Res, check, need, andThen, mapRes, bad-stream, no-cue, short-pixels, short-words, short-canvas}
 use Rattle.grammar.specs.Index.{Said}
 use Rattle.grammar.specs.IndexCues.{cuesOf, cueAt}
-use Rattle.grammar.specs.Packets.{Form, unitOf}
+use Rattle.grammar.specs.Packets.{Form, unitOf, top-stream}
 use Rattle.grammar.specs.Bands.{bandWords}
 use Rattle.grammar.specs.Record.{told, width, height}
 use Rattle.grammar.specs.Picture.{ListedUnit}
@@ -35,12 +35,13 @@ pub record Found : Type 0 where
 abbrev pub found : List Said → Form → Found
 found ls m = record { lines = ls; form = m }
 
--- 1 to 9, then 11, then 12 to 14 with n bytes of scratch
+-- 1 to 9, then 32, then 11, then 12 to 14 with n bytes of scratch
 unfoldable pub foundFor : List ℕ → List ℕ → Wanted → ℕ → Res Found
 foundFor text file q n =
     andThen (textOf text)
-    (λ ls. andThen (need no-cue (cueAt (cuesOf ls) (q .cue)))
-    (λ c. mapRes (found ls) (unitAt (wantedId q) file (c .position) n)))
+    (λ ls. check (leb (q .stream) top-stream) bad-stream
+    (andThen (need no-cue (cueAt (cuesOf ls) (q .cue)))
+    (λ c. mapRes (found ls) (unitAt (wantedId q) file (c .position) n))))
 
 -- 15 to 21, then 22 to 24 with so many pixels, words and canvas bytes, then 25 and 26
 unfoldable pub canvasIn : List ℕ → ℕ → ℕ → ℕ → Res ListedUnit

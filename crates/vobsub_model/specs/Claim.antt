@@ -1,14 +1,19 @@
 -- What the call claims of whole files, in the grammar's words (FORMAT 6.4 to 6.6). Assumes nothing: these are definitions.
 use mathlib.Core.Path.{_≡_}
 use mathlib.Core.Logic.{_↔_}
-use mathlib.Core.List.{List}
+use mathlib.Core.Option.{some}
+use mathlib.Core.List.{List, []}
 use Prim.Native.Nat.{ℕ, _*_}
 use lib.ListN.{length, take}
 use lib.Seq.{sets}
-use Rattle.grammar.specs.Packets.{unitOf, scratchFor}
-use Rattle.grammar.specs.Reading.{Wanted, Reading, IsReading, shown, mapOf, wordsOf, canvasOf, LongEnough}
+use Rattle.grammar.specs.Index.{Said, IsText}
+use Rattle.grammar.specs.IndexCues.{Cue, cuesOf, cueAt}
+use Rattle.grammar.specs.Packets.{Packet, unitOf, scratchFor}
+use Rattle.grammar.specs.Streams.{Walk, Alike}
+use Rattle.grammar.specs.Reading.{Wanted, wantedId, Reading, IsReading, shown, mapOf, wordsOf, canvasOf, LongEnough}
 use Rattle.idx_model.specs.Answers.{given, orZero}
 use Rattle.vobsub_model.specs.Call.{Lent}
+use Rattle.vobsub_model.specs.Answers.{CuePainted}
 use Rattle.vobsub_model.specs.declared.Shown.{Shown}
 use Rattle.vobsub_model.specs.declared.CanvasAnswer.{CanvasAnswer}
 use Rattle.vobsub_model.specs.declared.CanvasAnswer.the-variants as canvas-answer
@@ -49,3 +54,23 @@ pub record Exactly (text file : List ℕ) (q : Wanted) (b : Lent) (r : CanvasAns
   pub no-two : (x y : Reading) → IsReading text file q x → IsReading text file q y → x ≡ y
   pub same : (x : Reading) → IsReading text file q x → Gives r → Equal x b r b′
   pub as-found : (Gives r → ⊥) → (b′ .pixels ≡ b .pixels) × (b′ .words ≡ b .words) × (b′ .canvas ≡ b .canvas)
+
+-- ---- Other streams (FORMAT 2.11)
+
+-- two files give a cue the same readings, and two calls leave the same: the answer with every number, and all four
+-- buffers
+pub record SameResults (text file other : List ℕ) (q : Wanted) (r t : CanvasAnswer) (b c : Lent) : Type 0 where
+  pub readings : (x : Reading) → IsReading text file q x ↔ IsReading text other q x
+  pub answer : r ≡ t
+  pub scratch : b .scratch ≡ c .scratch
+  pub pixels : b .pixels ≡ c .pixels
+  pub words : b .words ≡ c .words
+  pub canvas : b .canvas ≡ c .canvas
+
+-- a file that differs from this one in packets of other streams alone, among those walked from the cue's position,
+-- gives the same
+abbrev pub Undisturbed : List ℕ → List ℕ → Wanted → Lent → CanvasAnswer → Lent → Type 0
+Undisturbed text file q b r b′ =
+    (other : List ℕ) (ls : List Said) (c : Cue) (ps : List Packet) → IsText text ls → cueAt (cuesOf ls) (q .cue) ≡ some c
+    → Walk (wantedId q) file (c .position) [] ps → Alike (q .stream) file other ps
+    → (t : CanvasAnswer) (b″ : Lent) → CuePainted text other q b t b″ → SameResults text file other q r t b′ b″

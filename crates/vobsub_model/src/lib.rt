@@ -10,6 +10,7 @@ pub struct Four {
 // What a caller asks for.
 pub struct Request {
     pub cue: usize,
+    pub stream: usize,
 }
 
 // What is shown of a cue.

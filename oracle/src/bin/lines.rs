@@ -1,5 +1,7 @@
 // What the original says of a title, as the lines of the list program: `lines DIR`. A refused index has no number, as the original gives none.
+// The list program names stream 0: where others are on a cue's walk, the original is asked about a copy with their ids set to 00.
 use oracle::side::{Spot, number_of};
+use oracle::walk::walk;
 use std::fs;
 use std::path::PathBuf;
 
@@ -15,7 +17,8 @@ fn main() {
     println!("cues {}", index.cues.len());
     for (n, &(start, position)) in index.cues.iter().enumerate() {
         let duration = (side.duration)(start, index.cues.get(n + 1).map(|c| c.0)).map_or("-".to_string(), |d| d.to_string());
-        let unit = match (side.spot)(&file, position as usize) {
+        let position = position as usize;
+        let unit = match (side.spot)(&walk(&file, position, 0).copy(&file), position) {
             Spot::Skipped => Err(12),
             Spot::None { .. } => Err(13),
             Spot::Unit { unit, .. } => Ok(unit),

@@ -2,7 +2,8 @@
 //
 // The list: 128 bytes of text that say how it was made; then for each class in the order of `classes::all` a word with the number of its rows,
 // and its rows. A row is 16 bytes and the request's bytes: which function is asked (1 pes, 2 packets, 3 bands, 4 fields, 5 units, 6 written,
-// 7 idx, 8 cue, 9 canvas), the refusal, a word with the number of bytes, four words with the request's numbers, and four bytes with the sum over the answer.
+// 7 idx, 8 cue, 9 canvas), the refusal, a word with the number of bytes, four words with the request's numbers (of packets the position, the stream
+// and the scratch; a canvas has its stream in its bytes), and four bytes with the sum over the answer.
 //
 // Only requests on which both sides agree (or that a rule covers) go into the list, so many for each answer.
 use oracle::class::{BYTE, Class, NUMBER, Request, START, Sum, WORD, World};
@@ -70,8 +71,8 @@ fn answer(kind: u8, bytes: &[u8], n: [usize; 4]) -> (u8, u64) {
             refusal
         }
         2 => {
-            let (mut scratch, mut length, mut joined) = (vec![BYTE; n[1]], NUMBER, BYTE);
-            let refusal = port::extract_spu(bytes, n[0], &mut scratch, &mut length, &mut joined);
+            let (mut scratch, mut length, mut joined) = (vec![BYTE; n[2]], NUMBER, BYTE);
+            let refusal = port::extract_spu(bytes, n[0], n[1], &mut scratch, &mut length, &mut joined);
             sum.add(length);
             sum.add(joined as usize);
             sum.all(&scratch);
@@ -122,9 +123,9 @@ fn answer(kind: u8, bytes: &[u8], n: [usize; 4]) -> (u8, u64) {
         9 => {
             let (mut scratch, mut map, mut words, mut painted) = (vec![BYTE; n[0]], vec![BYTE; n[1]], vec![WORD; n[2]], vec![BYTE; n[3]]);
             let (mut start, mut numbers) = (START, [NUMBER as u64; port::SHOWN_NUMBERS]);
-            let (text, file, cue) = canvas::parts(bytes);
+            let (text, file, cue, stream) = canvas::parts(bytes);
             let lent = port::Lent { scratch: &mut scratch, pixels: &mut map, words: &mut words, canvas: &mut painted };
-            let refusal = port::decode_cue(text, file, cue, lent, &mut start, &mut numbers);
+            let refusal = port::decode_cue(text, file, cue, stream, lent, &mut start, &mut numbers);
             sum.signed(start);
             sum.all(&numbers);
             sum.all(&scratch);
@@ -150,12 +151,13 @@ fn answer(kind: u8, bytes: &[u8], n: [usize; 4]) -> (u8, u64) {
 fn rows(class: &Class, world: &World, side: &Side) -> (usize, Vec<u8>) {
     let mut out = Vec::new();
     let mut met: BTreeMap<u8, usize> = BTreeMap::new();
-    let mut count = 0;
+    let (mut count, mut copied) = (0, 0);
     for i in 0..60_000 {
         let q = (class.generate)(world, &mut Random::of(SEED, class.name, i));
         let n = numbers(class, side, &q);
         let room = match kind(class) {
-            2 | 3 => n[1],
+            2 => n[2],
+            3 => n[1],
             4 => n[3],
             5 => n[0].max(n[1]),
             _ => 0,
@@ -182,6 +184,7 @@ fn rows(class: &Class, world: &World, side: &Side) -> (usize, Vec<u8>) {
         }
         *seen += 1;
         count += 1;
+        copied += o.copied.is_some() as usize;
         out.extend([kind(class), refusal]);
         for word in [q.bytes.len(), n[0], n[1], n[2], n[3]] {
             out.extend((word as u16).to_be_bytes());
@@ -190,7 +193,7 @@ fn rows(class: &Class, world: &World, side: &Side) -> (usize, Vec<u8>) {
         out.extend(&q.bytes);
     }
     let met: Vec<String> = met.iter().map(|(r, c)| format!("{r}: {c}")).collect();
-    println!("{}: {count} rows ({})", class.name, met.join(", "));
+    println!("{}: {count} rows ({}), {copied} with other streams on the walk", class.name, met.join(", "));
     (count, out)
 }
 

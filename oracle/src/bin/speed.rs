@@ -4,6 +4,7 @@ use oracle::original;
 use oracle::oxideav_core;
 use oracle::port;
 use oracle::titles::{Title, titles};
+use oracle::walk::{stream_at, walk};
 use std::hint::black_box;
 
 const ROUNDS: usize = 31;
@@ -105,8 +106,15 @@ fn decode(name: &str, units: &[Vec<u8>], lent: &mut Lent) {
     );
 }
 
+// The stream of a title, which must be the only one on the walks from its cues: the original joins all.
+fn stream_of(title: &Title) -> usize {
+    let stream = stream_at(&title.file, title.positions[0]);
+    assert!(title.positions.iter().all(|&p| walk(&title.file, p, stream).others.is_empty()));
+    stream
+}
+
 fn extract(name: &str, title: &Title, lent: &mut Lent) {
-    let (file, positions) = (&title.file, &title.positions);
+    let (file, positions, stream) = (&title.file, &title.positions, stream_of(title));
     beside(
         name,
         &mut || {
@@ -117,7 +125,7 @@ fn extract(name: &str, title: &Title, lent: &mut Lent) {
         &mut || {
             for &p in positions {
                 let (mut length, mut joined) = (0, 0);
-                let refusal = port::extract_spu(black_box(file), p, &mut lent.scratch, &mut length, &mut joined);
+                let refusal = port::extract_spu(black_box(file), p, stream, &mut lent.scratch, &mut length, &mut joined);
                 assert_eq!(refusal, 0);
                 black_box(length);
             }
@@ -165,7 +173,7 @@ fn painted(idx: &original::VobSubIdx, file: &[u8]) -> usize {
 // next, for its duration, but no packet of it); in the second part it gets the index and the palette as they are. Its canvas is made anew,
 // cleared; the port's buffers are lent, and those parts of map and canvas that a cue needs are cleared before each call.
 fn cues(title: &Title, lent: &mut Lent) {
-    let (text, file, count) = (title.text.as_str(), &title.file[..], title.positions.len());
+    let (text, file, count, stream) = (title.text.as_str(), &title.file[..], title.positions.len(), stream_of(title));
     let whole = original::parse_idx(text).expect("an index");
     let one = |cue: usize| whole.clone().with_cues(vec![whole.cues[cue]]);
     let alone: Vec<original::VobSubIdx> = (0..count).map(one).collect();
@@ -179,7 +187,7 @@ fn cues(title: &Title, lent: &mut Lent) {
         lent.canvas[..need].fill(0);
         let (mut start, mut numbers) = (0, [0; port::SHOWN_NUMBERS]);
         let buffers = port::Lent { scratch: &mut lent.scratch, pixels: &mut lent.map, words: &mut lent.words, canvas: &mut lent.canvas };
-        let refusal = port::decode_cue(black_box(text), black_box(file), cue, buffers, &mut start, &mut numbers);
+        let refusal = port::decode_cue(black_box(text), black_box(file), cue, stream, buffers, &mut start, &mut numbers);
         assert_eq!(refusal, 0);
         black_box((start, numbers));
     };

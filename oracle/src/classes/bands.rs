@@ -4,7 +4,7 @@ use crate::port;
 use crate::random::Random;
 use crate::side::{Side, number_of};
 
-pub const CLASS: Class = Class { name: "bands", fixed, generate, compare, refusals: &[19, 23], accepted: true, dear: 1 };
+pub const CLASS: Class = Class { name: "bands", fixed, generate, compare, refusals: &[19, 23], met: &[], accepted: true, dear: 1 };
 
 const ALPHABET: [u8; 10] = [0x00, 0x01, 0x0F, 0x10, 0x1F, 0x20, 0x7F, 0xF0, 0xFE, 0xFF];
 

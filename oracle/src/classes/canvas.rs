@@ -1,14 +1,16 @@
-// A cue's canvas from index text and file, in one call. The bytes: four with the text's length, two with the cue's number, the text, the file.
+// A cue's canvas from index text and file, in one call. The bytes: four with the text's length, two with the cue's number, two with the
+// stream, the text, the file.
 // n: how scratch, map, words and canvas are lent (0 exactly as long as needed, 1 longer, 2 one short, 3 none).
 use crate::class::*;
 use crate::classes::idx::{Expected, TIMES, expected, line, number};
-use crate::classes::packets::in_packets;
+use crate::classes::packets::{above, another, in_packets};
 use crate::classes::unit::{area, by_mode, change, made, put, set_word};
 use crate::classes::{bands, field};
 use crate::port;
 use crate::random::Random;
 use crate::side::{Painted, Seen, Side, number_of};
 use crate::titles::titles;
+use crate::walk::{ABOVE, ABSENT, PARTED, TOP_STREAM, stream_at, walk};
 use std::cell::RefCell;
 
 pub const CLASS: Class = Class {
@@ -16,44 +18,52 @@ pub const CLASS: Class = Class {
     fixed,
     generate,
     compare,
-    refusals: &[1, 2, 3, 4, 5, 6, 7, 8, 9, 11, 12, 13, 14, 15, 16, 17, 18, 19, 20, 21, 22, 23, 24, 25, 26],
+    refusals: &[1, 2, 3, 4, 5, 6, 7, 8, 9, 11, 12, 13, 14, 15, 16, 17, 18, 19, 20, 21, 22, 23, 24, 25, 26, 32],
+    met: &[PARTED, ABSENT],
     accepted: true,
     dear: 4,
 };
 
-const HEAD: usize = 6;
+const HEAD: usize = 8;
 
-pub fn request(text: &[u8], file: &[u8], cue: usize, n: [usize; 4]) -> Request {
+pub fn request(text: &[u8], file: &[u8], cue: usize, stream: usize, n: [usize; 4]) -> Request {
     let mut bytes = (text.len() as u32).to_be_bytes().to_vec();
     bytes.extend((cue as u16).to_be_bytes());
+    bytes.extend((stream as u16).to_be_bytes());
     bytes.extend(text);
     bytes.extend(file);
     Request { bytes, n }
 }
 
-// Text, file and cue of a request.
-pub fn parts(bytes: &[u8]) -> (&[u8], &[u8], usize) {
+// Text, file, cue and stream of a request.
+pub fn parts(bytes: &[u8]) -> (&[u8], &[u8], usize, usize) {
     let mut head = [0; HEAD];
     let there = bytes.len().min(HEAD);
     head[..there].copy_from_slice(&bytes[..there]);
-    let [a, b, c, d, e, f] = head;
+    let [a, b, c, d, e, f, g, h] = head;
     let rest = &bytes[there..];
     let length = (u32::from_be_bytes([a, b, c, d]) as usize).min(rest.len());
-    (&rest[..length], &rest[length..], u16::from_be_bytes([e, f]) as usize)
+    (&rest[..length], &rest[length..], u16::from_be_bytes([e, f]) as usize, u16::from_be_bytes([g, h]) as usize)
 }
 
-// Every cue of the small titles, lent exactly, more, and each buffer one short; every cue of a title of few, and of one of many each tenth.
+// Every cue of the small titles, lent exactly, more, and each buffer one short, and for another stream and 32; every cue of a title of few,
+// and of one of many each tenth.
 fn fixed(_: &World, each: &mut dyn FnMut(Request)) {
     for title in titles() {
         let (text, cues) = (title.text.as_bytes(), title.positions.len());
         let small = title.file.len() < 1 << 16;
         for cue in (0..=cues).step_by(if cues > 100 { 10 } else { 1 }) {
-            each(request(text, &title.file, cue, [1; 4]));
+            let stream = title.positions.get(cue).map_or(0, |&p| stream_at(&title.file, p));
+            each(request(text, &title.file, cue, stream, [1; 4]));
             for short in 0..if small { 4 } else { 0 } {
                 let mut n = [0; 4];
-                each(request(text, &title.file, cue, n));
+                each(request(text, &title.file, cue, stream, n));
                 n[short] = 2;
-                each(request(text, &title.file, cue, n));
+                each(request(text, &title.file, cue, stream, n));
+            }
+            if small {
+                each(request(text, &title.file, cue, (stream + 1) % 32, [1; 4]));
+                each(request(text, &title.file, cue, 32, [1; 4]));
             }
         }
     }
@@ -64,7 +74,7 @@ fn fixed(_: &World, each: &mut dyn FnMut(Request)) {
         for at in [14, 15, 17, 18] {
             let mut unit = card;
             unit[at] = b;
-            each(request(text, &unit, 0, [0; 4]));
+            each(request(text, &unit, 0, b as usize % 32, [0; 4]));
         }
     }
 }
@@ -283,6 +293,8 @@ fn generate(world: &World, r: &mut Random) -> Request {
     let fault = fault(r);
     let cues = r.within(1, 4);
     let mut cue = r.below(cues);
+    let mut stream = r.below(TOP_STREAM + 1);
+    let second = another(r, stream);
     let some = r.below(9);
     let mut file = r.bytes(some);
     let (mut starts, mut positions, mut time) = (Vec::new(), Vec::new(), 0);
@@ -299,8 +311,11 @@ fn generate(world: &World, r: &mut Random) -> Request {
         positions.push(file.len());
         if r.once_in(2) && !matches!(wrong, Fault::Scratch | Fault::Under4) {
             file.extend(&unit);
+        } else if r.once_in(2) {
+            in_packets(r, &[(stream, &unit)], &mut file);
         } else {
-            in_packets(r, &unit, &mut file);
+            let beside = banded(r, Fault::None);
+            in_packets(r, &[(stream, &unit), (second, &beside)], &mut file);
         }
         let some = r.below(5);
         file.extend(r.bytes(some));
@@ -338,8 +353,14 @@ fn generate(world: &World, r: &mut Random) -> Request {
         Fault::OtherPlace => positions[cue] = r.below(file.len()),
         _ => {}
     }
+    match r.below(50) {
+        0..3 => stream = second,
+        3 | 4 => stream = another(r, stream),
+        5 | 6 => stream = above(r, stream).min(65535),
+        _ => {}
+    }
     let text = text(r, fault, &starts, &positions);
-    request(&text, &file, cue, n)
+    request(&text, &file, cue, stream, n)
 }
 
 // Lent memory that keeps its pattern between requests, with a margin behind what is lent.
@@ -381,7 +402,7 @@ fn holds<T: Copy + PartialEq>(lent: &mut [T], room: usize, front: &[T], pattern:
 
 impl Lent {
     fn ask(&mut self, q: &Request, rooms: [usize; 4]) -> Answer {
-        let (text, file, cue) = parts(&q.bytes);
+        let (text, file, cue, stream) = parts(&q.bytes);
         let [a, b, c, d] = rooms;
         for (buffer, room) in [(&mut self.scratch, a), (&mut self.pixels, b), (&mut self.canvas, d)] {
             if buffer.len() < room + MARGIN {
@@ -393,7 +414,7 @@ impl Lent {
         }
         let (mut start, mut numbers) = (START, [NUMBER as u64; port::SHOWN_NUMBERS]);
         let lent = port::Lent { scratch: &mut self.scratch[..a], pixels: &mut self.pixels[..b], words: &mut self.words[..c], canvas: &mut self.canvas[..d] };
-        let refusal = port::decode_cue(text, file, cue, lent, &mut start, &mut numbers);
+        let refusal = port::decode_cue(text, file, cue, stream, lent, &mut start, &mut numbers);
         Answer { refusal, start, numbers }
     }
 
@@ -428,7 +449,7 @@ const BEFORE: &str = "22 to 24 are checked before 25 and 26";
 
 fn compared(lent: &mut Lent, side: &Side, q: &Request) -> Outcome {
     let mut o = Outcome::default();
-    let (text, file, cue) = parts(&q.bytes);
+    let (text, file, cue, stream) = parts(&q.bytes);
     // as much as a refusal before the unit may meet
     let some = [64, 64, 64, 256];
     let (index, panicked) = expected(side, text, usize::MAX);
@@ -442,12 +463,21 @@ fn compared(lent: &mut Lent, side: &Side, q: &Request) -> Outcome {
         }
         Expected::Given(index) => index,
     };
+    if stream > TOP_STREAM {
+        o.rule = Some(ABOVE);
+        let a = lent.ask(q, some);
+        lent.refused(&mut o, &a, 32, some, &[]);
+        return o;
+    }
     if cue >= index.cues.len() {
         o.rule = Some("11: a cue by its number is added");
         let a = lent.ask(q, some);
         lent.refused(&mut o, &a, 11, some, &[]);
         return o;
     }
+    let walk = walk(file, index.cues[cue].1 as usize, stream);
+    let file = &walk.copy(file)[..];
+    o.copied = walk.rule();
     let mut lasts = None;
     let seen = tried(|| (side.seen)(&index, file, cue, false)).or_else(|words| {
         // the difference of two starts leaves signed 64 bits, of these or of others in the text: without the others there is none
@@ -474,6 +504,7 @@ fn compared(lent: &mut Lent, side: &Side, q: &Request) -> Outcome {
             o.must(handed_on && refused, || "no unit, and the original does not refuse the rest of the file".into());
             let a = lent.ask(q, some);
             lent.refused(&mut o, &a, 13, some, &[]);
+            o.met.extend(o.copied.map(|_| ABSENT));
         }
         Ok(Seen::Unit { unit, joined, same, shows }) => {
             o.must(same, || "the original's packet has another unit than it finds".into());
@@ -493,6 +524,7 @@ fn compared(lent: &mut Lent, side: &Side, q: &Request) -> Outcome {
                         painted.duration = lasts;
                     }
                     found(&mut o, lent, q, &painted, scratch, stored, &unit);
+                    o.met.extend((o.both && walk.parted).then_some(PARTED));
                 }
             }
         }
@@ -503,11 +535,12 @@ fn compared(lent: &mut Lent, side: &Side, q: &Request) -> Outcome {
 // How much of each buffer is lent for the fixed list: what the request says of what the original needs, and enough where it refuses.
 pub fn rooms(side: &Side, q: &Request) -> [usize; 4] {
     let some = [64, 1024, 256, 4096];
-    let (text, file, cue) = parts(&q.bytes);
+    let (text, file, cue, stream) = parts(&q.bytes);
     let Expected::Given(index) = expected(side, text, usize::MAX).0 else { return some };
-    if cue >= index.cues.len() {
+    if stream > TOP_STREAM || cue >= index.cues.len() {
         return some;
     }
+    let file = &walk(file, index.cues[cue].1 as usize, stream).copy(file)[..];
     let Ok(Seen::Unit { unit, joined, shows, .. }) = tried(|| (side.seen)(&index, file, cue, true)) else { return some };
     let scratch = if joined { by_mode(q.n[0], unit.len()) } else { q.n[0] };
     match shows {

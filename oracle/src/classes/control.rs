@@ -3,7 +3,7 @@ use crate::class::*;
 use crate::classes::{bands, unit};
 use crate::random::Random;
 
-pub const CLASS: Class = Class { name: "control", fixed, generate, compare: unit::compare, refusals: &[16, 17, 18, 19, 20, 21, 22, 23, 25, 26], accepted: true, dear: 1 };
+pub const CLASS: Class = Class { name: "control", fixed, generate, compare: unit::compare, refusals: &[16, 17, 18, 19, 20, 21, 22, 23, 25, 26], met: &[], accepted: true, dear: 1 };
 
 // a unit whose commands are these bytes, after four bytes of fills
 fn with_commands(commands: &[u8]) -> Vec<u8> {

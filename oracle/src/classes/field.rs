@@ -4,7 +4,7 @@ use crate::port;
 use crate::random::Random;
 use crate::side::{Side, number_of};
 
-pub const CLASS: Class = Class { name: "fields", fixed, generate, compare, refusals: &[22, 26], accepted: true, dear: 1 };
+pub const CLASS: Class = Class { name: "fields", fixed, generate, compare, refusals: &[22, 26], met: &[], accepted: true, dear: 1 };
 
 fn fixed(_: &World, each: &mut dyn FnMut(Request)) {
     // every code of up to four nibbles in a row that it does not fill, that it fills, and that it clips to

@@ -4,8 +4,8 @@ use crate::port;
 use crate::random::Random;
 use crate::side::{Index, Side};
 
-pub const CLASS: Class = Class { name: "idx", fixed, generate, compare, refusals: &[1, 2, 3, 4, 5, 6, 7, 8, 9, 10], accepted: true, dear: 1 };
-pub const CUE: Class = Class { name: "cue", fixed: fixed_cues, generate: generate_cue, compare: compare_cue, refusals: &[1, 2, 3, 4, 5, 6, 7, 8, 9, 11], accepted: true, dear: 1 };
+pub const CLASS: Class = Class { name: "idx", fixed, generate, compare, refusals: &[1, 2, 3, 4, 5, 6, 7, 8, 9, 10], met: &[], accepted: true, dear: 1 };
+pub const CUE: Class = Class { name: "cue", fixed: fixed_cues, generate: generate_cue, compare: compare_cue, refusals: &[1, 2, 3, 4, 5, 6, 7, 8, 9, 11], met: &[], accepted: true, dear: 1 };
 
 fn each_word(alphabet: &[&str], longest: u32, f: &mut dyn FnMut(&str)) {
     for length in 0..=longest {

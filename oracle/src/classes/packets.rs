@@ -1,16 +1,44 @@
-// Files with a unit at a position, bare or in packets. n: the position, the bytes of scratch.
+// Files with units at a position, bare or in packets of one stream or two. n: the position, the stream, the bytes of scratch.
 use crate::class::*;
 use crate::classes::pes;
 use crate::port;
 use crate::random::Random;
 use crate::side::{Side, Spot};
+use crate::walk::{ABOVE, ABSENT, FIRST_ID, PARTED, TOP_STREAM, bodies, stream_at, walk};
 
-pub const CLASS: Class = Class { name: "packets", fixed, generate, compare, refusals: &[12, 13, 14], accepted: true, dear: 1 };
+pub const CLASS: Class = Class { name: "packets", fixed, generate, compare, refusals: &[12, 13, 14, 32], met: &[PARTED, ABSENT], accepted: true, dear: 1 };
 
 fn fixed(world: &World, each: &mut dyn FnMut(Request)) {
     for (file, unit) in world.files.iter().zip(&world.units) {
+        let stream = stream_at(file, 0);
         for scratch in [unit.len(), unit.len() + 9, unit.len() - 1] {
-            each(Request { bytes: file.clone(), n: [0, scratch, 0, 0] });
+            each(Request { bytes: file.clone(), n: [0, stream, scratch, 0] });
+        }
+        each(Request { bytes: file.clone(), n: [0, (stream + 1) % 32, unit.len(), 0] });
+    }
+    // real units by twos in packets of two streams in turn; each is asked for, and a third
+    for pair in world.units.windows(2) {
+        let mut bytes = Vec::new();
+        let mut parts = [pair[0].chunks(900), pair[1].chunks(900)];
+        while parts.iter().any(|p| p.len() > 0) {
+            for (id, parts) in (FIRST_ID..).zip(&mut parts) {
+                if let Some(part) = parts.next() {
+                    plain(id, part, &mut bytes);
+                }
+            }
+        }
+        for stream in 0..3 {
+            each(Request { bytes: bytes.clone(), n: [0, stream, 65535, 0] });
+        }
+    }
+    // every first byte of a body between the two parts of a unit, for every stream and two more
+    for id in 0..=255u8 {
+        for stream in 0..=TOP_STREAM + 2 {
+            let mut bytes = Vec::new();
+            plain(FIRST_ID + stream as u8, &[0], &mut bytes);
+            plain(id, &[4, 0, 4], &mut bytes);
+            plain(FIRST_ID + stream as u8, &[4, 0, 9], &mut bytes);
+            each(Request { bytes, n: [0, stream, 4, 0] });
         }
     }
     // every code, with every small length and every room for it
@@ -20,7 +48,7 @@ fn fixed(world: &World, each: &mut dyn FnMut(Request)) {
                 let mut bytes = vec![0, 0, 1, code, 0, length];
                 bytes.resize(6 + room, 0x80);
                 bytes.extend([0, 0, 1, 0xBD, 0, 8, 0x80, 0, 0, 0x20, 0, 4, 0, 4]);
-                each(Request { bytes, n: [0, 4, 0, 0] });
+                each(Request { bytes, n: [0, 0, 4, 0] });
             }
         }
     }
@@ -33,10 +61,18 @@ fn fixed(world: &World, each: &mut dyn FnMut(Request)) {
                 bytes.push(last);
                 bytes.resize(4 + size + stuffing as usize, 0xFF);
                 bytes.extend([0, 0, 1, 0xBD, 0, 8, 0x80, 0, 0, 0x20, 0, 4, 0, 4]);
-                each(Request { bytes, n: [0, 4, 0, 0] });
+                each(Request { bytes, n: [0, 0, 4, 0] });
             }
         }
     }
+}
+
+// A packet with the shortest header of the newer form.
+fn plain(id: u8, kept: &[u8], out: &mut Vec<u8>) {
+    out.extend([0, 0, 1, 0xBD]);
+    out.extend((kept.len() as u16 + 4).to_be_bytes());
+    out.extend([0x80, 0, 0, id]);
+    out.extend(kept);
 }
 
 fn pack(r: &mut Random, out: &mut Vec<u8>) {
@@ -80,10 +116,11 @@ fn other(r: &mut Random, out: &mut Vec<u8>) {
     out.extend(r.bytes(length));
 }
 
-// The unit in packets, with others between them that keep nothing.
-pub fn in_packets(r: &mut Random, unit: &[u8], bytes: &mut Vec<u8>) {
-    let mut done = 0;
-    while done < unit.len() {
+// Units in packets, each under its stream's id and all in turn as it comes, with others between them that keep nothing.
+pub fn in_packets(r: &mut Random, units: &[(usize, &[u8])], bytes: &mut Vec<u8>) {
+    let mut left = units.to_vec();
+    left.retain(|u| !u.1.is_empty());
+    while !left.is_empty() {
         match r.below(8) {
             0 | 1 => pack(r, bytes),
             2 => other(r, bytes),
@@ -94,41 +131,67 @@ pub fn in_packets(r: &mut Random, unit: &[u8], bytes: &mut Vec<u8>) {
                 private(r, &kept, id, bytes);
             }
             _ => {
-                let left = unit.len() - done;
-                let part = if r.once_in(3) { left } else if r.once_in(4) { r.below(2) } else { r.within(1, left) }.min(60000);
-                let id = 0x20 + r.below(32) as u8;
-                let mut kept = unit[done..done + part].to_vec();
-                if part == left && r.once_in(3) {
+                let i = r.below(left.len());
+                let (stream, unit) = left[i];
+                let part = if r.once_in(3) { unit.len() } else if r.once_in(4) { r.below(2) } else { r.within(1, unit.len()) }.min(60000);
+                let mut kept = unit[..part].to_vec();
+                if part == unit.len() && r.once_in(3) {
                     kept.extend([1, 2, 3]);
                 }
-                private(r, &kept, id, bytes);
-                done += part;
+                private(r, &kept, FIRST_ID + stream as u8, bytes);
+                left[i].1 = &unit[part..];
+                left.retain(|u| !u.1.is_empty());
             }
         }
     }
 }
 
-fn generate(world: &World, r: &mut Random) -> Request {
-    let lead = if r.once_in(2) { 0 } else { r.below(9) };
-    let mut bytes = r.bytes(lead);
-    // the unit's length word and what follows it
-    let t = if r.once_in(6) { r.below(6) } else if r.once_in(50) { r.within(1000, 65535) } else { r.within(4, 300) };
+// Another stream than this one.
+pub fn another(r: &mut Random, stream: usize) -> usize {
+    (stream + r.within(1, TOP_STREAM)) % (TOP_STREAM + 1)
+}
+
+// A stream above 31, often with this one in its low bits.
+pub fn above(r: &mut Random, stream: usize) -> usize {
+    match r.below(4) {
+        0 => r.within(TOP_STREAM + 1, 300),
+        1 => *r.pick(&[32, 33, 224, 255, 256, 65535, 65536, usize::MAX]),
+        _ => stream + *r.pick(&[32, 64, 128, 256, 65536 - 32, 65536, 1 << 32, usize::MAX - 31]),
+    }
+}
+
+// A unit, of which the first word says how long it is, but where it is very short.
+fn some_unit(world: &World, r: &mut Random) -> Vec<u8> {
+    let most = *r.pick(&[30, 300]);
+    let t = if r.once_in(6) { r.below(6) } else if r.once_in(50) { r.within(1000, 65535) } else { r.within(4, most) };
     let mut unit = if r.once_in(40) { r.pick(&world.units).clone() } else { r.bytes(t.max(2)) };
     if unit.len() < 60000 && t < 4 || unit.len() == t {
         unit[0] = (t / 256) as u8;
         unit[1] = (t % 256) as u8;
     }
+    unit
+}
+
+fn generate(world: &World, r: &mut Random) -> Request {
+    let lead = if r.once_in(2) { 0 } else { r.below(9) };
+    let mut bytes = r.bytes(lead);
+    let unit = some_unit(world, r);
     let wanted = (unit[0] as usize * 256 + unit[1] as usize).min(unit.len());
+    let mut stream = r.below(TOP_STREAM + 1);
+    let second = another(r, stream);
     if r.once_in(8) {
         bytes.extend(&unit);
+    } else if r.once_in(2) {
+        in_packets(r, &[(stream, &unit)], &mut bytes);
     } else {
-        in_packets(r, &unit, &mut bytes);
+        let beside = some_unit(world, r);
+        in_packets(r, &[(stream, &unit), (second, &beside)], &mut bytes);
     }
     let some = r.below(8);
     bytes.extend(r.bytes(some));
     let mut position = lead;
     let mut scratch = wanted + if r.once_in(3) { r.below(9) } else { 0 };
-    match r.below(12) {
+    match r.below(14) {
         0 => position = bytes.len() + r.below(3),
         1 => scratch = if r.once_in(2) { wanted.saturating_sub(1) } else { r.below(wanted + 1) },
         2 => bytes.truncate(r.below(bytes.len() + 1)),
@@ -143,47 +206,71 @@ fn generate(world: &World, r: &mut Random) -> Request {
             let i = r.within(lead, bytes.len() - 4);
             bytes.splice(i..i, [0, 0, 1, 0xB9, 0, 0]);
         }
+        6 => {
+            // the other unit, where there is one, with scratch that may be too short for it; or any other stream
+            stream = if r.once_in(2) { second } else { another(r, stream) };
+            scratch += r.below(300);
+        }
+        7 => {
+            // one body under another id
+            let places: Vec<usize> = bodies(&bytes, lead).map(|b| b.0).collect();
+            if !places.is_empty() {
+                bytes[*r.pick(&places)] = r.within(0x1E, 0x41) as u8;
+            }
+        }
         _ => {}
     }
     if r.once_in(500) {
         position = usize::MAX - r.below(4);
     }
-    Request { bytes, n: [position, scratch, 0, 0] }
+    if r.once_in(25) {
+        stream = above(r, stream);
+    }
+    Request { bytes, n: [position, stream, scratch, 0] }
 }
 
 fn compare(side: &Side, q: &Request) -> Outcome {
-    let [position, room, ..] = q.n;
+    let [position, stream, room, _] = q.n;
     let mut scratch = vec![BYTE; room];
     let mut length = NUMBER;
     let mut joined = BYTE;
-    let refusal = port::extract_spu(&q.bytes, position, &mut scratch, &mut length, &mut joined);
+    let refusal = port::extract_spu(&q.bytes, position, stream, &mut scratch, &mut length, &mut joined);
     let mut o = Outcome { refusal, ..Default::default() };
     let mut stored = 0;
-    match tried(|| (side.spot)(&q.bytes, position)) {
-        Err(words) => o.panicked = Some(words),
-        Ok(Spot::Skipped) => {
-            o.rule = Some("12: the original leaves the cue out");
-            o.must(refusal == 12, || format!("the original leaves the cue out; the port says {refusal}"));
-        }
-        Ok(Spot::None { handed_on }) => {
-            o.must(handed_on, || "the original finds no unit and hands on something else than the rest".into());
-            o.must(refusal == 13, || format!("the original has no unit; the port says {refusal}"));
-        }
-        Ok(Spot::Unit { unit, joined: packets, same }) => {
-            o.must(same, || "the original hands on another unit than it finds".into());
-            if packets && room < unit.len() {
-                o.rule = Some("14: scratch is lent, and too short");
-                o.must(refusal == 14, || format!("a unit of {} bytes, {room} of scratch; the port says {refusal}", unit.len()));
-            } else {
-                o.both = refusal == 0;
-                o.must(refusal == 0, || format!("the original has a unit; the port says {refusal}"));
-                o.must(length == unit.len() && joined == packets as u8, || format!("length {length} for {}, joined {joined}", unit.len()));
-                if refusal == 0 && length == unit.len() {
-                    let part = if packets { &scratch[..length] } else { &q.bytes[position..position + length] };
-                    o.must(part == unit, || "the unit's bytes".into());
-                    if packets {
-                        stored = length;
+    if stream > TOP_STREAM {
+        o.rule = Some(ABOVE);
+        o.must(refusal == 32, || format!("stream {stream}; the port says {refusal}"));
+    } else {
+        let walk = walk(&q.bytes, position, stream);
+        o.copied = walk.rule();
+        match tried(|| (side.spot)(&walk.copy(&q.bytes), position)) {
+            Err(words) => o.panicked = Some(words),
+            Ok(Spot::Skipped) => {
+                o.rule = Some("12: the original leaves the cue out");
+                o.must(refusal == 12, || format!("the original leaves the cue out; the port says {refusal}"));
+            }
+            Ok(Spot::None { handed_on }) => {
+                o.must(handed_on, || "the original finds no unit and hands on something else than the rest".into());
+                o.must(refusal == 13, || format!("the original has no unit; the port says {refusal}"));
+                o.met.extend(o.copied.map(|_| ABSENT));
+            }
+            Ok(Spot::Unit { unit, joined: packets, same }) => {
+                o.must(same, || "the original hands on another unit than it finds".into());
+                if packets && room < unit.len() {
+                    o.rule = Some("14: scratch is lent, and too short");
+                    o.must(refusal == 14, || format!("a unit of {} bytes, {room} of scratch; the port says {refusal}", unit.len()));
+                } else {
+                    o.both = refusal == 0;
+                    o.must(refusal == 0, || format!("the original has a unit; the port says {refusal}"));
+                    o.must(length == unit.len() && joined == packets as u8, || format!("length {length} for {}, joined {joined}", unit.len()));
+                    if refusal == 0 && length == unit.len() {
+                        let part = if packets { &scratch[..length] } else { &q.bytes[position..position + length] };
+                        o.must(part == unit, || "the unit's bytes".into());
+                        if packets {
+                            stored = length;
+                        }
                     }
+                    o.met.extend((o.both && walk.parted).then_some(PARTED));
                 }
             }
         }

@@ -7,7 +7,7 @@ use crate::random::Random;
 use crate::side::{Decoded, Side, number_of};
 use std::cell::RefCell;
 
-pub const CLASS: Class = Class { name: "units", fixed, generate, compare, refusals: &[15, 16, 17, 18, 19, 20, 21, 22, 23, 25, 26], accepted: true, dear: 1 };
+pub const CLASS: Class = Class { name: "units", fixed, generate, compare, refusals: &[15, 16, 17, 18, 19, 20, 21, 22, 23, 25, 26], met: &[], accepted: true, dear: 1 };
 
 fn fixed(world: &World, each: &mut dyn FnMut(Request)) {
     for unit in &world.units {

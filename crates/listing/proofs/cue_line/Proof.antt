@@ -24,7 +24,8 @@ returns : tie.Need-returns
 returns c =
     let s = c .before .before .before .before .before .before .before in
     let t = c .before .before .before .before in
-    let w = listed-line _ (s .args .file .now) (s .args .n) _ (omega arith) (line-none (s .args .starts .now) (s .args .positions .now) (s .args .cues) (s .args .file .now) (s .args .n) _ (c .before .before .before .lesser2 .ensures ∙ ap (min (s .args .cues)) (t .lesser .ensures)) (c .before .before .if1 .taken)) (c .put-refused .ensures) in (w .0, w .1, form-none (s .args .starts .now) (s .args .positions .now) (s .args .cues) (s .args .file .now) (s .args .n) _ (c .before .before .before .lesser2 .ensures ∙ ap (min (s .args .cues)) (t .lesser .ensures)) (c .before .before .if1 .taken) _)
+    listed-line _ (s .args .file .now) (s .args .n) _ _ _ (omega arith) (line-none (s .args .starts .now) (s .args .positions .now) (s .args .cues) (s .args .file .now) (s .args .n) _ (c .before .before .before .lesser2 .ensures ∙ ap (min (s .args .cues)) (t .lesser .ensures)) (c .before .before .if1 .taken)) (c .put-refused .ensures)
+    (form-none (s .args .starts .now) (s .args .positions .now) (s .args .cues) (s .args .file .now) (s .args .n) _ (c .before .before .before .lesser2 .ensures ∙ ap (min (s .args .cues)) (t .lesser .ensures)) (c .before .before .if1 .taken) _)
 
 mul-start : tie.Need-mul-start
 mul-start c = search needs
@@ -57,7 +58,8 @@ returns-2 : tie.Need-returns-2
 returns-2 c =
     let s = c .before .before .before .before .before .before .before .before .before .before .before .before .before in
     let t = c .before .before .before .before .before .before .before .before .before .before in
-    let w = listed-line _ (s .args .file .now) (s .args .n) _ (omega arith) (line-next (s .args .starts .now) (s .args .positions .now) (s .args .cues) (s .args .file .now) (s .args .n) _ (c .before .before .before .before .before .before .before .before .before .lesser2 .ensures ∙ ap (min (s .args .cues)) (t .lesser .ensures)) _ _ _ (toZ-ofZ {w = w64} (record { sfits = c .before .before .before .before .before .before .before .start .given })) refl (c .before .before .before .before .before .before .before .before .if1 .left) (c .before .before .before .before .before .before .if2 .taken) (toZ-ofZ {w = w64} (record { sfits = c .before .before .before .before .before .duration-of-arg .given })) _ (c .before .before .before .before .duration-of .ensures)) (c .put-cue .ensures .0) in (w .0, w .1, form-some (s .args .starts .now) (s .args .positions .now) (s .args .cues) (s .args .file .now) (s .args .n) _ (c .before .before .before .before .before .before .before .before .before .lesser2 .ensures ∙ ap (min (s .args .cues)) (t .lesser .ensures)) (c .before .before .before .before .before .before .before .before .if1 .left) _ _ (c .put-cue .ensures .1))
+    listed-line _ (s .args .file .now) (s .args .n) _ _ _ (omega arith) (line-next (s .args .starts .now) (s .args .positions .now) (s .args .cues) (s .args .file .now) (s .args .n) _ (c .before .before .before .before .before .before .before .before .before .lesser2 .ensures ∙ ap (min (s .args .cues)) (t .lesser .ensures)) _ _ _ (toZ-ofZ {w = w64} (record { sfits = c .before .before .before .before .before .before .before .start .given })) refl (c .before .before .before .before .before .before .before .before .if1 .left) (c .before .before .before .before .before .before .if2 .taken) (toZ-ofZ {w = w64} (record { sfits = c .before .before .before .before .before .duration-of-arg .given })) _ (c .before .before .before .before .duration-of .ensures)) (c .put-cue .ensures .0)
+    (form-some (s .args .starts .now) (s .args .positions .now) (s .args .cues) (s .args .file .now) (s .args .n) _ (c .before .before .before .before .before .before .before .before .before .lesser2 .ensures ∙ ap (min (s .args .cues)) (t .lesser .ensures)) (c .before .before .before .before .before .before .before .before .if1 .left) _ _ (c .put-cue .ensures .1))
 
 mul-put-cue-2 : tie.Need-mul-put-cue-2
 mul-put-cue-2 c = search needs
@@ -72,7 +74,8 @@ returns-3 : tie.Need-returns-3
 returns-3 c =
     let s = c .before .before .before .before .before .before .before .before .before .before .before in
     let t = c .before .before .before .before .before .before .before .before in
-    let w = listed-line _ (s .args .file .now) (s .args .n) _ (omega arith) (line-last (s .args .starts .now) (s .args .positions .now) (s .args .cues) (s .args .file .now) (s .args .n) _ (c .before .before .before .before .before .before .before .lesser2 .ensures ∙ ap (min (s .args .cues)) (t .lesser .ensures)) _ (pos 0) _ (toZ-ofZ {w = w64} (record { sfits = c .before .before .before .before .before .start .given })) refl (c .before .before .before .before .before .before .if1 .left) (c .before .before .before .before .if2 .left)) (c .put-cue2 .ensures .0) in (w .0, w .1, form-some (s .args .starts .now) (s .args .positions .now) (s .args .cues) (s .args .file .now) (s .args .n) _ (c .before .before .before .before .before .before .before .lesser2 .ensures ∙ ap (min (s .args .cues)) (t .lesser .ensures)) (c .before .before .before .before .before .before .if1 .left) _ _ (c .put-cue2 .ensures .1))
+    listed-line _ (s .args .file .now) (s .args .n) _ _ _ (omega arith) (line-last (s .args .starts .now) (s .args .positions .now) (s .args .cues) (s .args .file .now) (s .args .n) _ (c .before .before .before .before .before .before .before .lesser2 .ensures ∙ ap (min (s .args .cues)) (t .lesser .ensures)) _ (pos 0) _ (toZ-ofZ {w = w64} (record { sfits = c .before .before .before .before .before .start .given })) refl (c .before .before .before .before .before .before .if1 .left) (c .before .before .before .before .if2 .left)) (c .put-cue2 .ensures .0)
+    (form-some (s .args .starts .now) (s .args .positions .now) (s .args .cues) (s .args .file .now) (s .args .n) _ (c .before .before .before .before .before .before .before .lesser2 .ensures ∙ ap (min (s .args .cues)) (t .lesser .ensures)) (c .before .before .before .before .before .before .if1 .left) _ _ (c .put-cue2 .ensures .1))
 
 pub cue-line-spec : {M : Type 1} → statement M
 cue-line-spec =

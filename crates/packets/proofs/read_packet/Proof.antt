@@ -3,19 +3,20 @@ use borrow.Author.Needs.{needs}
 use native.Mathlib.Omega.{arith}
 use mathlib.Core.Path.{_∙_}
 use Prim.Native.Nat.{_+_}
+use Rattle.grammar.specs.Packets.{isId}
 use Rattle.ps_model.proofs.PacketGrammar.{word-at}
 use Rattle.ps_model.proofs.Read.{packet-short, packet-unprefixed, packet-pack, packet-private, packet-ending, packet-other}
 use Rattle.packets.proofs.read_packet.Statement.{statement}
 use Rattle.packets.proofs.read_packet.Tie as tie
 
 returns : tie.Need-returns
-returns c = packet-short (c .before .before .args .file .now) (c .before .before .args .at) (omega (arith, c .if1 .taken))
+returns c = packet-short (isId (c .before .before .args .id)) (c .before .before .args .file .now) (c .before .before .args .at) (omega (arith, c .if1 .taken))
 
 sub-if2 : tie.Need-sub-if2
 sub-if2 c = omega (arith, c .if1 .left)
 
 returns-2 : tie.Need-returns-2
-returns-2 c = packet-short (c .before .before .before .args .file .now) (c .before .before .before .args .at) (omega (arith, c .before .if1 .left, c .if2 .taken))
+returns-2 c = packet-short (isId (c .before .before .before .args .id)) (c .before .before .before .args .file .now) (c .before .before .before .args .at) (omega (arith, c .before .if1 .left, c .if2 .taken))
 
 shared-slice-read-if3 : tie.Need-shared-slice-read-if3
 shared-slice-read-if3 c = let l = c .before .before .if1 .left in let m = c .before .if2 .left in omega arith
@@ -23,7 +24,7 @@ shared-slice-read-if3 c = let l = c .before .before .if1 .left in let m = c .bef
 returns-3 : tie.Need-returns-3
 returns-3 c =
     let s = c .before .before .before .before .before in
-    packet-unprefixed (s .args .file .now) (s .args .at) (λ p. c .if3 .taken (p .at-0))
+    packet-unprefixed (isId (s .args .id)) (s .args .file .now) (s .args .at) (λ p. c .if3 .taken (p .at-0))
 
 add-if4 : tie.Need-add-if4
 add-if4 c = let l = c .before .before .before .if1 .left in let m = c .before .before .if2 .left in omega arith
@@ -34,7 +35,7 @@ shared-slice-read-if4 c = let l = c .before .before .before .before .if1 .left i
 returns-4 : tie.Need-returns-4
 returns-4 c =
     let s = c .before .before .before .before .before .before .before in
-    packet-unprefixed (s .args .file .now) (s .args .at) (λ p. c .if4 .taken (p .at-1))
+    packet-unprefixed (isId (s .args .id)) (s .args .file .now) (s .args .at) (λ p. c .if4 .taken (p .at-1))
 
 add-if5 : tie.Need-add-if5
 add-if5 c = let l = c .before .before .before .before .before .if1 .left in let m = c .before .before .before .before .if2 .left in omega arith
@@ -45,7 +46,7 @@ shared-slice-read-if5 c = let l = c .before .before .before .before .before .bef
 returns-5 : tie.Need-returns-5
 returns-5 c =
     let s = c .before .before .before .before .before .before .before .before .before in
-    packet-unprefixed (s .args .file .now) (s .args .at) (λ p. c .if5 .taken (p .at-2))
+    packet-unprefixed (isId (s .args .id)) (s .args .file .now) (s .args .at) (λ p. c .if5 .taken (p .at-2))
 
 add-code : tie.Need-add-code
 add-code c = let l = c .before .before .before .before .before .before .before .if1 .left in let m = c .before .before .before .before .before .before .if2 .left in omega arith
@@ -59,7 +60,7 @@ pack-requires c κs = let l = c .before .before .before .before .before .before 
 returns-6 : tie.Need-returns-6
 returns-6 c =
     let s = c .before .before .before .before .before .before .before .before .before .before .before .before in
-    c .pack .ensures ∙ packet-pack (s .args .file .now) (s .args .at) (record { at-0 = c .before .before .before .before .before .before .before .if3 .left; at-1 = c .before .before .before .before .before .if4 .left; at-2 = c .before .before .before .if5 .left }) (c .before .if6 .taken)
+    c .pack .ensures ∙ packet-pack (isId (s .args .id)) (s .args .file .now) (s .args .at) (record { at-0 = c .before .before .before .before .before .before .before .if3 .left; at-1 = c .before .before .before .before .before .if4 .left; at-2 = c .before .before .before .if5 .left }) (c .before .if6 .taken)
 
 add-word-of : tie.Need-add-word-of
 add-word-of c = let l = c .before .before .before .before .before .before .before .before .before .if1 .left in let m = c .before .before .before .before .before .before .before .before .if2 .left in omega arith
@@ -84,12 +85,12 @@ private-stream-requires c κs =
 returns-7 : tie.Need-returns-7
 returns-7 c =
     let s = c .before .before .before .before .before .before .before .before .before .before .before .before .before .before .before .before in
-    c .private-stream .ensures ∙ packet-private (s .args .file .now) (s .args .at) (record { at-0 = c .before .before .before .before .before .before .before .before .before .before .before .if3 .left; at-1 = c .before .before .before .before .before .before .before .before .before .if4 .left; at-2 = c .before .before .before .before .before .before .before .if5 .left }) (c .before .before .before .before .before .if6 .left) (c .before .if7 .taken)
+    c .private-stream .ensures ∙ packet-private (isId (s .args .id)) (s .args .file .now) (s .args .at) (record { at-0 = c .before .before .before .before .before .before .before .before .before .before .before .if3 .left; at-1 = c .before .before .before .before .before .before .before .before .before .if4 .left; at-2 = c .before .before .before .before .before .before .before .if5 .left }) (c .before .before .before .before .before .if6 .left) (c .before .if7 .taken)
 
 returns-8 : tie.Need-returns-8
 returns-8 c =
     let s = c .before .before .before .before .before .before .before .before .before .before .before .before .before .before .before .before in
-    packet-ending (s .args .file .now) (s .args .at) (record { at-0 = c .before .before .before .before .before .before .before .before .before .before .before .if3 .left; at-1 = c .before .before .before .before .before .before .before .before .before .if4 .left; at-2 = c .before .before .before .before .before .before .before .if5 .left }) (c .before .before .before .before .before .if6 .left) (c .before .if7 .left) (c .if8 .taken)
+    packet-ending (isId (s .args .id)) (s .args .file .now) (s .args .at) (record { at-0 = c .before .before .before .before .before .before .before .before .before .before .before .if3 .left; at-1 = c .before .before .before .before .before .before .before .before .before .if4 .left; at-2 = c .before .before .before .before .before .before .before .if5 .left }) (c .before .before .before .before .before .if6 .left) (c .before .if7 .left) (c .if8 .taken)
 
 add-passing : tie.Need-add-passing
 add-passing c =
@@ -102,7 +103,7 @@ passing-requires c κs = let l = c .before .before .before .before .before .befo
 returns-9 : tie.Need-returns-9
 returns-9 c =
     let s = c .before .before .before .before .before .before .before .before .before .before .before .before .before .before .before .before .before in
-    c .passing .ensures ∙ packet-other (s .args .file .now) (s .args .at) (record { at-0 = c .before .before .before .before .before .before .before .before .before .before .before .before .if3 .left; at-1 = c .before .before .before .before .before .before .before .before .before .before .if4 .left; at-2 = c .before .before .before .before .before .before .before .before .if5 .left }) (c .before .before .before .before .before .before .if6 .left) (c .before .before .if7 .left) (c .before .if8 .left) _ (omega (arith, c .before .before .before .word-of .ensures, word-at (s .args .file .now) (s .args .at + 4) (s .args .at + 5) (omega arith)))
+    c .passing .ensures ∙ packet-other (isId (s .args .id)) (s .args .file .now) (s .args .at) (record { at-0 = c .before .before .before .before .before .before .before .before .before .before .before .before .if3 .left; at-1 = c .before .before .before .before .before .before .before .before .before .before .if4 .left; at-2 = c .before .before .before .before .before .before .before .before .if5 .left }) (c .before .before .before .before .before .before .if6 .left) (c .before .before .if7 .left) (c .before .if8 .left) _ (omega (arith, c .before .before .before .word-of .ensures, word-at (s .args .file .now) (s .args .at + 4) (s .args .at + 5) (omega arith)))
 
 pub read-packet-spec : {M : Type 1} → statement M
 read-packet-spec =

@@ -32,6 +32,15 @@ shared-slice-read-word-of-2 c = search needs
 word-of-requires : tie.Need-word-of-requires
 word-of-requires c κs = search needs
 
+shared-slice-read-word-of-3 : tie.Need-shared-slice-read-word-of-3
+shared-slice-read-word-of-3 c = search needs
+
+shared-slice-read-word-of-4 : tie.Need-shared-slice-read-word-of-4
+shared-slice-read-word-of-4 c = search needs
+
+word-of-requires-2 : tie.Need-word-of-requires-2
+word-of-requires-2 c κs = search needs
+
 sub-rest : tie.Need-sub-rest
 sub-rest c = search needs
 
@@ -75,6 +84,9 @@ canvas-row-spec =
     shared-slice-read-word-of
     shared-slice-read-word-of-2
     word-of-requires
+    shared-slice-read-word-of-3
+    shared-slice-read-word-of-4
+    word-of-requires-2
     sub-rest
     part-rest-start
     part-rest-end

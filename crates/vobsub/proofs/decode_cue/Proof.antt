@@ -11,10 +11,13 @@ use Rattle.vobsub.proofs.decode_cue.Tie as tie
 pick-cue-requires : tie.Need-pick-cue-requires
 pick-cue-requires c κs = search needs
 
+first-refusal-requires : tie.Need-first-refusal-requires
+first-refusal-requires c κs = search needs
+
 returns : tie.Need-returns
 returns c =
-    let s = c .before .before .before .before .before .before .before .before .before in
-    kept _ _ _ _ _ _ (cue-refused (s .args .text .now) (s .args .file .now) (s .args .cue) (s .args .scratch .now) (s .args .pixels .now) (s .args .words .now) (s .args .canvas .now) _ (c .before .before .pick-cue .ensures .0) (c .if1 .taken))
+    let s = c .before .before .before .before .before .before .before .before .before .before in
+    kept _ _ _ _ _ _ (cue-refused (s .args .text .now) (s .args .file .now) (s .args .cue) (s .args .stream) (s .args .scratch .now) (s .args .pixels .now) (s .args .words .now) (s .args .canvas .now) _ (c .before .before .before .pick-cue .ensures .0) (c .before .if1 .taken) _ (c .first-refusal .ensures))
 
 extract-spu-requires : tie.Need-extract-spu-requires
 extract-spu-requires c κs = search needs
@@ -49,7 +52,7 @@ same-length-4 c = search needs
 returns-2 : tie.Need-returns-2
 returns-2 c =
     let s = c .before .before .before .before .before .before .before .before .before .before .before .before .before .before .before .before .before .before .before .before .before .before .before .before .before .before .before in
-    kept _ _ _ _ _ _ (unit-some (s .args .text .now) (s .args .file .now) (s .args .cue) (s .args .scratch .now) (s .args .pixels .now) (s .args .words .now) (s .args .canvas .now) _ (c .before .before .before .before .before .before .before .before .before .before .before .before .before .before .before .before .before .before .before .before .pick-cue .ensures .0) (c .before .before .before .before .before .before .before .before .before .before .before .before .before .before .before .before .before .before .if1 .left) _ _ (named (c .before .before .before .before .before .before .before .before .before .before .before .before .n .given .1) (c .before .before .before .before .before .before .before .before .before .before .before .before .before .before .before .before .extract-spu .ensures .0)) (λ n q. let z : _≡_ {A = ℕ} 0 1 = cc in omega arith) _ _ _ _ (c .before .before .before .before .before .before .paint-found .ensures))
+    kept _ _ _ _ _ _ (unit-some (s .args .text .now) (s .args .file .now) (s .args .cue) (s .args .stream) (s .args .scratch .now) (s .args .pixels .now) (s .args .words .now) (s .args .canvas .now) _ (c .before .before .before .before .before .before .before .before .before .before .before .before .before .before .before .before .before .before .before .before .pick-cue .ensures .0) (c .before .before .before .before .before .before .before .before .before .before .before .before .before .before .before .before .before .before .if1 .left) _ _ (named (c .before .before .before .before .before .before .before .before .before .before .before .before .n .given .1) (c .before .before .before .before .before .before .before .before .before .before .before .before .before .before .before .before .extract-spu .ensures .0)) (λ n q. let z : _≡_ {A = ℕ} 0 1 = cc in omega arith) _ _ _ _ (c .before .before .before .before .before .before .paint-found .ensures))
 
 same-length-5 : tie.Need-same-length-5
 same-length-5 c = search needs
@@ -66,7 +69,7 @@ same-length-8 c = search needs
 returns-3 : tie.Need-returns-3
 returns-3 c =
     let s = c .before .before .before .before .before .before .before .before .before .before .before .before .before .before .before .before .before .before .before .before .before .before .before .before .before .before .before in
-    kept _ _ _ _ _ _ (unit-some (s .args .text .now) (s .args .file .now) (s .args .cue) (s .args .scratch .now) (s .args .pixels .now) (s .args .words .now) (s .args .canvas .now) _ (c .before .before .before .before .before .before .before .before .before .before .before .before .before .before .before .before .before .before .before .before .pick-cue .ensures .0) (c .before .before .before .before .before .before .before .before .before .before .before .before .before .before .before .before .before .before .if1 .left) _ _ (named (c .before .before .before .before .before .before .before .before .before .before .before .before .n2 .given .1) (c .before .before .before .before .before .before .before .before .before .before .before .before .before .before .before .before .extract-spu .ensures .0)) (λ n q. let z : _≡_ {A = ℕ} 0 1 = cc in omega arith) _ _ _ _ (c .before .before .before .before .before .before .paint-found2 .ensures))
+    kept _ _ _ _ _ _ (unit-some (s .args .text .now) (s .args .file .now) (s .args .cue) (s .args .stream) (s .args .scratch .now) (s .args .pixels .now) (s .args .words .now) (s .args .canvas .now) _ (c .before .before .before .before .before .before .before .before .before .before .before .before .before .before .before .before .before .before .before .before .pick-cue .ensures .0) (c .before .before .before .before .before .before .before .before .before .before .before .before .before .before .before .before .before .before .if1 .left) _ _ (named (c .before .before .before .before .before .before .before .before .before .before .before .before .n2 .given .1) (c .before .before .before .before .before .before .before .before .before .before .before .before .before .before .before .before .extract-spu .ensures .0)) (λ n q. let z : _≡_ {A = ℕ} 0 1 = cc in omega arith) _ _ _ _ (c .before .before .before .before .before .before .paint-found2 .ensures))
 
 same-length-9 : tie.Need-same-length-9
 same-length-9 c = search needs
@@ -74,13 +77,14 @@ same-length-9 c = search needs
 returns-4 : tie.Need-returns-4
 returns-4 c =
     let s = c .before .before .before .before .before .before .before .before .before .before .before .before .before .before .before .before in
-    kept _ _ _ _ _ _ (unit-none (s .args .text .now) (s .args .file .now) (s .args .cue) (s .args .scratch .now) (s .args .pixels .now) (s .args .words .now) (s .args .canvas .now) _ (c .before .before .before .before .before .before .before .before .before .pick-cue .ensures .0) (c .before .before .before .before .before .before .before .if1 .left) _ _ _ (c .before .before .before .before .before .extract-spu .ensures .0) (c .before .number .given .1))
+    kept _ _ _ _ _ _ (unit-none (s .args .text .now) (s .args .file .now) (s .args .cue) (s .args .stream) (s .args .scratch .now) (s .args .pixels .now) (s .args .words .now) (s .args .canvas .now) _ (c .before .before .before .before .before .before .before .before .before .pick-cue .ensures .0) (c .before .before .before .before .before .before .before .if1 .left) _ _ _ (c .before .before .before .before .before .extract-spu .ensures .0) (c .before .number .given .1))
 
 pub decode-cue-spec : {M : Type 1} → statement M
 decode-cue-spec =
     tie.close
     (tie.spec
     pick-cue-requires
+    first-refusal-requires
     returns
     extract-spu-requires
     enum-known-n

@@ -6,31 +6,34 @@ use lib.IntN.{ℤ}
 use mir.Facts.{toZ-ofZ}
 use mir.Syntax.{w64}
 use borrow.Author.Needs.{needs}
-use Rattle.grammar.specs.Reading.{wanted}
+use Rattle.grammar.specs.Reading.{Wanted}
 use Rattle.vobsub_model.specs.Call.{Lent}
 use Rattle.vobsub_model.specs.Answers.{CuePainted}
 use Rattle.vobsub_model.specs.Claim.{Exactly}
 use Rattle.vobsub_model.specs.declared.CanvasAnswer.{CanvasAnswer}
-use Rattle.vobsub_c.specs.Answers.{canvasRefusal, canvasStart, canvasRecord, CueDecoded}
+use Rattle.vobsub_c.specs.Answers.{canvasRefusal, canvasStart, canvasRecord, CueDecoded, CueUndisturbed}
 use Rattle.vobsub_c.proofs.Returned.{canvas-returned}
+use Rattle.vobsub_c.proofs.Streams.{cue-kept}
 use Rattle.vobsub_c.proofs.vobsub_decode_cue.Statement.{statement}
 use Rattle.vobsub_c.proofs.vobsub_decode_cue.Tie as tie
 
 -- what is left where the call's answer is known, and start and numbers are its own
-given : (t f : List ℕ) (n : ℕ) (b b′ : Lent) (z z′ : ℤ) (ns ns′ : List ℕ) (a d : CanvasAnswer) → a ≡ d → CuePainted t f (wanted n) b a b′ × Exactly t f (wanted n) b a b′ → z′ ≡ canvasStart d z → ns′ ≡ canvasRecord d ns → CueDecoded t f n b z ns (canvasRefusal d) b′ z′ ns′
-given t f n b b′ z z′ ns ns′ a d e q k h =
-    let y = sym e ∙ q .0 .answer in
-    record {
+given : (t f : List ℕ) (w : Wanted) (b b′ : Lent) (z z′ : ℤ) (ns ns′ : List ℕ) (a d : CanvasAnswer) → a ≡ d
+    → CuePainted t f w b a b′ → Exactly t f w b a b′ → z′ ≡ canvasStart d z → ns′ ≡ canvasRecord d ns
+    → CueDecoded t f w b z ns (canvasRefusal d) b′ z′ ns′ × CueUndisturbed t f w b z ns (canvasRefusal d) b′ z′ ns′
+given t f w b b′ z z′ ns ns′ a d e q x k h =
+    let y = sym e ∙ q .answer in
+    cue-kept t f w b z ns _ b′ z′ ns′ (record {
       refusal = ap canvasRefusal y;
-      returned = canvas-returned t f n b _ (ap canvasRefusal y);
+      returned = canvas-returned t f w b _ (ap canvasRefusal y);
       starts-at = k ∙ ap (λ (o : CanvasAnswer). canvasStart o z) y;
       told = h ∙ ap (λ (o : CanvasAnswer). canvasRecord o ns) y;
-      in-scratch = q .0 .in-scratch;
-      in-pixels = q .0 .in-pixels;
-      in-words = q .0 .in-words;
-      in-canvas = q .0 .in-canvas;
-      exactly = subst (λ (o : CanvasAnswer). Exactly t f (wanted n) b o b′) (q .0 .answer) (q .1);
-    }
+      in-scratch = q .in-scratch;
+      in-pixels = q .in-pixels;
+      in-words = q .in-words;
+      in-canvas = q .in-canvas;
+      exactly = subst (λ (o : CanvasAnswer). Exactly t f w b o b′) (q .answer) x;
+    })
 
 decode-cue-requires : tie.Need-decode-cue-requires
 decode-cue-requires c κs = search needs
@@ -57,7 +60,7 @@ same-length-4 : tie.Need-same-length-4
 same-length-4 c = search needs
 
 returns : tie.Need-returns
-returns c = given _ _ _ _ _ _ _ _ _ _ _ (c .before .before .before .s .given .1) (c .before .before .before .before .before .before .before .before .before .before .before .before .before .decode-cue .ensures) (toZ-ofZ {w = w64} (record { sfits = c .before .struct-told .given .0 .1 })) (c .shown-numbers-of .ensures)
+returns c = given _ _ _ _ _ _ _ _ _ _ _ (c .before .before .before .s .given .1) (c .before .before .before .before .before .before .before .before .before .before .before .before .before .decode-cue .ensures .0) (c .before .before .before .before .before .before .before .before .before .before .before .before .before .decode-cue .ensures .1) (toZ-ofZ {w = w64} (record { sfits = c .before .struct-told .given .0 .1 })) (c .shown-numbers-of .ensures)
 
 same-length-5 : tie.Need-same-length-5
 same-length-5 c = search needs
@@ -72,7 +75,7 @@ same-length-8 : tie.Need-same-length-8
 same-length-8 c = search needs
 
 returns-2 : tie.Need-returns-2
-returns-2 c = given _ _ _ _ _ _ _ _ _ _ _ (c .before .number .given .1) (c .before .before .before .before .before .before .before .before .before .before .before .decode-cue .ensures) refl refl
+returns-2 c = given _ _ _ _ _ _ _ _ _ _ _ (c .before .number .given .1) (c .before .before .before .before .before .before .before .before .before .before .before .decode-cue .ensures .0) (c .before .before .before .before .before .before .before .before .before .before .before .decode-cue .ensures .1) refl refl
 
 pub vobsub-decode-cue-spec : {M : Type 1} → statement M
 vobsub-decode-cue-spec =
