@@ -1,14 +1,15 @@
--- Where the parts of a packet stand, and that a body is found by the bytes up to its first. Assumes nothing.
-use Prim.Native.Nat.{ℕ, _+_, _≤_, _<_}
+-- Where the parts of a packet stand, and what finds a body. Assumes nothing.
+use Prim.Native.Nat.{ℕ, _+_, _-_, _≤_, _<_}
+use native.Mathlib.Nat.{add-zero}
 use native.Mathlib.Omega.{arith}
-use mathlib.Core.Path.{_≡_, sym, _∙_}
+use mathlib.Core.Path.{_≡_, sym, ap, _∙_}
 use mathlib.Core.Bool.{Bool}
 use mathlib.Core.Logic.{_⊎_, inl, inr, ⊎-elim}
 use mathlib.Core.List.{List}
 use lib.ListN.{length, take}
 use lib.Seq.{slice, ext-getD, length-slice, getD-drop, getD-take}
 use Rattle.grammar.specs.Bytes.{byte, word}
-use Rattle.grammar.specs.Packets.{Packet, Header2, Header1, IsBody, IsPack, IsPrivate, IsOther, IsPacket, Bare}
+use Rattle.grammar.specs.Packets.{Packet, Stuffing, bufferSize, stampSize, Header2, Header1, IsBody, IsPack, IsPrivate, IsOther, IsPacket, Bare}
 
 pub byte-slice : (f : List ℕ) (a e i : ℕ) → a + i < e → byte (slice a e f) i ≡ byte f (a + i)
 byte-slice f a e i l = getD-drop a (take e f) i 0 ∙ getD-take e f (a + i) 0 l
@@ -31,6 +32,62 @@ module _ (id : ℕ → Bool) (f : List ℕ) (p : Packet) where
   unfolding word
   not-bare h b = let l = b .least in let u = h .prefix-0 in let v = h .prefix-1 in omega arith
 
+-- ---- A body is found by the bytes up to its first, wherever they stand
+
+-- the bytes of s from c on are those of f from a on, up to the body's first at c + b and within n bytes
+module _ (s : List ℕ) (c : ℕ) (f : List ℕ) (a n b : ℕ)
+    (h : (i : ℕ) → i ≤ b → i < n → byte s (c + i) ≡ byte f (a + i)) where
+  first : 0 < n → byte s c ≡ byte f a
+  first l = let g = h 0 (omega arith) l in rw (add-zero, add-zero) at g
+
+  header2-moves : Header2 s c (c + n) (c + b) → Header2 f a (a + n) (a + b)
+  header2-moves t =
+      let three = t .three in
+      let z = t .body in
+      let x = first (omega arith) in
+      let y = h 2 (omega arith) (omega arith) in
+      record { bits = rw (← x) (t .bits); three = omega arith; body = omega arith }
+
+  stuffing-moves : (k : ℕ) → k ≤ b → k < n → Stuffing s c k → Stuffing f a k
+  stuffing-moves k m l t =
+      record {
+        most = t .most;
+        each = λ i j. sym (h i (omega arith) (omega arith)) ∙ t .each i j;
+        no-more = λ j q. t .no-more j (h k m l ∙ q);
+      }
+
+  header1-moves : Header1 s c (c + n) (c + b) → Header1 f a (a + n) (a + b)
+  header1-moves t =
+      let l = t .size-byte in
+      let k = t .stamp-byte in
+      let g = t .stamp-is in
+      let d = t .body in
+      let p : c + (t .stamp - c) ≡ t .stamp = omega arith in
+      let x = first (omega arith) in
+      let y = ap bufferSize (h (t .count) (omega arith) (omega arith)) in
+      let w : byte s (t .stamp) ≡ byte f (a + (t .stamp - c)) = ap (byte s) (sym p) ∙ h (t .stamp - c) (omega arith) (omega arith) in
+      let v = ap stampSize w in
+      record {
+        bits = rw (← x) (t .bits);
+        count = t .count;
+        stuffing = stuffing-moves (t .count) (omega arith) (omega arith) (t .stuffing);
+        size-byte = omega arith;
+        stamp = a + (t .stamp - c);
+        stamp-is = omega arith;
+        stamp-byte = omega arith;
+        body = omega arith;
+      }
+
+  pub body-moves : IsBody s c (c + n) (c + b) → IsBody f a (a + n) (a + b)
+  body-moves t =
+      let l = t .some-byte in
+      let w = t .within in
+      record {
+        some-byte = omega arith;
+        within = omega arith;
+        header = ⊎-elim (λ x. inl (header2-moves x)) (λ x. inr (header1-moves x)) (t .header);
+      }
+
 -- ---- Two files
 
 module _ (f g : List ℕ) where
@@ -49,37 +106,10 @@ module _ (f g : List ℕ) where
   pub body-same : (a e b : ℕ) → ((i : ℕ) → a ≤ i → i ≤ b → i < e → byte f i ≡ byte g i) → IsBody f a e b
       → IsBody g a e b
   body-same a e b h t =
-      record { some-byte = t .some-byte; within = t .within; header = ⊎-elim (λ x. inl (two x)) (λ x. inr (one x)) (t .header) }
-    where
-      two : Header2 f a e b → Header2 g a e b
-      two x =
-          let y = x .three in
-          let z = x .body in
-          let u = h a (omega arith) (omega arith) (omega arith) in
-          let v = h (a + 2) (omega arith) (omega arith) (omega arith) in
-          record { bits = rw (← u) (x .bits); three = x .three; body = rw (← v) (x .body) }
-
-      one : Header1 f a e b → Header1 g a e b
-      one x =
-          let l = x .size-byte in
-          let k = x .stamp-byte in
-          let s = x .stamp-is in
-          let d = x .body in
-          let u = h a (omega arith) (omega arith) (omega arith) in
-          let v = h (a + x .count) (omega arith) (omega arith) (omega arith) in
-          let w = h (x .stamp) (omega arith) (omega arith) (omega arith) in
-          record {
-            bits = rw (← u) (x .bits);
-            count = x .count;
-            stuffing =
-                record {
-                  most = x .stuffing .most;
-                  each = λ i m. sym (h (a + i) (omega arith) (omega arith) (omega arith)) ∙ x .stuffing .each i m;
-                  no-more = λ m q. x .stuffing .no-more m (v ∙ q);
-                };
-            size-byte = x .size-byte;
-            stamp = x .stamp;
-            stamp-is = rw (← v) (x .stamp-is);
-            stamp-byte = x .stamp-byte;
-            body = rw (← w) (x .body);
-          }
+      let l = t .some-byte in
+      let m = body-after f a e b t in
+      let y : a + (e - a) ≡ e = omega arith in
+      let z : a + (b - a) ≡ b = omega arith in
+      let k : IsBody f a (a + (e - a)) (a + (b - a)) = rw (y, z) t in
+      let o = body-moves f a g a (e - a) (b - a) (λ i u v. h (a + i) (omega arith) (omega arith) (omega arith)) k in
+      rw (y, z) at o

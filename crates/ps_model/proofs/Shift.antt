@@ -1,80 +1,19 @@
 -- The body of a PES is the same in the packet's own bytes and in the file. Assumes nothing.
 use Prim.Native.Nat.{ℕ, _+_, _-_, _/_, _≤_, _<_}
-use native.Mathlib.Nat.{add-zero}
 use native.Mathlib.Omega.{arith}
 use mathlib.Core.Path.{_≡_, refl, sym, ap, _∙_, subst}
 use mathlib.Core.Bool.{true, false}
-use mathlib.Core.Logic.{inl, inr, ⊎-elim}
+use mathlib.Core.Logic.{⊎-elim}
 use mathlib.Core.List.{List}
 use lib.Seq.{slice}
 use lib.Dec.{eqb, leb, ltb}
 use Rattle.outcome.specs.Outcome.{Res, ok, refuse, check, mapRes, no-unit}
 use Rattle.outcome.proofs.Laws.{ok-not-refuse, check-refuse, andThen-refuse, either}
 use Rattle.grammar.specs.Bytes.{byte}
-use Rattle.grammar.specs.Packets.{bufferSize, stampSize, Stuffing, Header2, Header1, IsBody}
-use Rattle.grammar.proofs.PacketParts.{byte-slice, body-after}
+use Rattle.grammar.specs.Packets.{IsBody}
+use Rattle.grammar.proofs.PacketParts.{byte-slice, body-after, body-moves}
 use Rattle.ps_model.specs.OnePacket.{leading, stampAt, header1At, headerAt, bodyAt}
 use Rattle.ps_model.proofs.PacketGrammar.{body-iff}
-
--- the n bytes of s from c on are those of f from a on
-pub record Shifted (s : List ℕ) (c : ℕ) (f : List ℕ) (a n : ℕ) : Type 0 where
-  pub each : (i : ℕ) → i < n → byte s (c + i) ≡ byte f (a + i)
-
-shifted-back : (s : List ℕ) (c : ℕ) (f : List ℕ) (a n : ℕ) → Shifted s c f a n → Shifted f a s c n
-shifted-back s c f a n h = record { each = λ i l. sym (h .each i l) }
-
-slice-shifted : (f : List ℕ) (a e : ℕ) → Shifted (slice a e f) 0 f a (e - a)
-slice-shifted f a e = record { each = λ i l. let z : 0 + i ≡ i = omega arith in rw z (byte-slice f a e i (omega arith)) }
-
--- ---- Bodies move with their bytes
-
-module _ (s : List ℕ) (c : ℕ) (f : List ℕ) (a n : ℕ) (h : Shifted s c f a n) where
-  first : 0 < n → byte s c ≡ byte f a
-  first l = let g = h .each 0 l in rw (add-zero, add-zero) at g
-
-  stuffing-moves : (k : ℕ) → k < n → Stuffing s c k → Stuffing f a k
-  stuffing-moves k l t =
-      record {
-        most = t .most;
-        each = λ i m. sym (h .each i (omega arith)) ∙ t .each i m;
-        no-more = λ m q. t .no-more m (h .each k l ∙ q);
-      }
-
-  header2-moves : (b : ℕ) → Header2 s c (c + n) (c + b) → Header2 f a (a + n) (a + b)
-  header2-moves b t =
-      let three = t .three in
-      let x = first (omega arith) in
-      let y = h .each 2 (omega arith) in
-      let z = t .body in
-      record { bits = rw (← x) (t .bits); three = omega arith; body = omega arith }
-
-  header1-moves : (b : ℕ) → Header1 s c (c + n) (c + b) → Header1 f a (a + n) (a + b)
-  header1-moves b t =
-      let l = t .size-byte in
-      let k = t .stamp-byte in
-      let g = t .stamp-is in
-      let p : c + (t .stamp - c) ≡ t .stamp = omega arith in
-      let x = first (omega arith) in
-      let y = ap bufferSize (h .each (t .count) (omega arith)) in
-      let w : byte s (t .stamp) ≡ byte f (a + (t .stamp - c)) = ap (byte s) (sym p) ∙ h .each (t .stamp - c) (omega arith) in
-      let v = ap stampSize w in
-      let d = t .body in
-      record {
-        bits = rw (← x) (t .bits);
-        count = t .count;
-        stuffing = stuffing-moves (t .count) (omega arith) (t .stuffing);
-        size-byte = omega arith;
-        stamp = a + (t .stamp - c);
-        stamp-is = omega arith;
-        stamp-byte = omega arith;
-        body = omega arith;
-      }
-
-  body-moves : (b : ℕ) → IsBody s c (c + n) (c + b) → IsBody f a (a + n) (a + b)
-  body-moves b t =
-      let l = t .some-byte in
-      let w = t .within in
-      record { some-byte = omega arith; within = omega arith; header = ⊎-elim (λ x. inl (header2-moves b x)) (λ x. inr (header1-moves b x)) (t .header) }
 
 -- ---- A body is refused with 13
 
@@ -109,11 +48,15 @@ module _ (f : List ℕ) (a e : ℕ) (h : a ≤ e) where
       zero-plus : (n : ℕ) → 0 + n ≡ n
       zero-plus n = omega arith
 
+      -- the packet's own bytes
+      own : (i : ℕ) → i < e - a → byte (slice a e f) (0 + i) ≡ byte f (a + i)
+      own i l = rw (zero-plus i) (byte-slice f a e i (omega arith))
+
       go : (r : Res ℕ) → bodyAt (slice a e f) 0 (e - a) ≡ r → bodyAt f a e ≡ mapRes (λ (b : ℕ). a + b) r
       go (ok b) q =
           let i = body-iff (slice a e f) 0 (e - a) b .0 q in
           let j : IsBody (slice a e f) 0 (0 + (e - a)) (0 + b) = rw (zero-plus (e - a), zero-plus b) i in
-          let k = body-moves (slice a e f) 0 f a (e - a) (slice-shifted f a e) b j in
+          let k = body-moves (slice a e f) 0 f a (e - a) b (λ i u v. own i v) j in
           body-iff f a e (a + b) .1 (subst (λ (x : ℕ). IsBody f a x (a + b)) whole k)
       go (refuse n) q = back (bodyAt f a e) refl
         where
@@ -124,6 +67,6 @@ module _ (f : List ℕ) (a e : ℕ) (h : a ≤ e) where
               let l = body-after f a e b i in
               let y : a + (b - a) ≡ b = omega arith in
               let j : IsBody f a (a + (e - a)) (a + (b - a)) = rw (whole, y) i in
-              let k = body-moves f a (slice a e f) 0 (e - a) (shifted-back (slice a e f) 0 f a (e - a) (slice-shifted f a e)) (b - a) j in
+              let k = body-moves f a (slice a e f) 0 (e - a) (b - a) (λ i u v. sym (own i v)) j in
               let m : IsBody (slice a e f) 0 (e - a) (b - a) = rw (zero-plus (e - a), zero-plus (b - a)) at k in
               ok-not-refuse (sym q ∙ body-iff (slice a e f) 0 (e - a) (b - a) .1 m)
