@@ -3,13 +3,13 @@ use borrow.Author.Needs.{needs}
 use native.Mathlib.Omega.{arith}
 use mathlib.Core.Path.{_≡_, sym, ap, _∙_, refl}
 use mathlib.Core.List.{List, []}
-use Prim.Native.Nat.{_-_}
+use Prim.Native.Nat.{ℕ, _-_}
 use lib.ListN.{length}
 use Rattle.outcome.specs.Outcome.{ok}
 use Rattle.outcome.proofs.Laws.{ok-injective}
 use Rattle.grammar.specs.Packets.{Packet, packets, unitOf, joined, isId}
 use Rattle.ps_model.specs.Packets.{packetsAt}
-use Rattle.ps_model.proofs.Read.{keeps-told, passes-told, refused-told}
+use Rattle.ps_model.proofs.Read.{Told, keeps-told, passes-told, refused-told}
 use Rattle.ps_model.proofs.Loops.{Joining, joining-starts, joining-ends, joining-refused, joining-passes, joining-goes, unit-within}
 use Rattle.ps.proofs.join_packets.Statement.{statement}
 use Rattle.ps.proofs.join_packets.Tie as tie
@@ -20,6 +20,32 @@ Inv-loop file from id t scratch₀ at₀ have₀ scratch at have =
 
 abbrev μ-loop : tie.MeasureT-loop
 μ-loop file from id t scratch₀ at₀ have₀ scratch at have = length file - at
+
+-- ---- Where a turn starts and is entered, and where a part is kept and copied
+
+abbrev start : tie.At-loop Inv-loop μ-loop → tie.Start Inv-loop μ-loop
+start c = c .before .before .before
+
+abbrev turn : tie.After-read-packet Inv-loop μ-loop → tie.At-loop Inv-loop μ-loop
+turn c = c .before .before
+
+abbrev kept : tie.After-lesser Inv-loop μ-loop → tie.After-a Inv-loop μ-loop
+kept c = c .before .before
+
+abbrev cut : tie.After-slice-known2 Inv-loop μ-loop → tie.After-lesser Inv-loop μ-loop
+cut c = c .before .before .before .before
+
+-- what the packet's answer tells: it keeps nothing, or a part
+abbrev Read : tie.After-read-packet Inv-loop μ-loop → ℕ → ℕ → Type 0
+Read c a e = Told (isId (start (turn c) .args .id)) (start (turn c) .args .file .now) (turn c .loop .at) a e
+
+passes : (c : tie.After-end Inv-loop μ-loop) → Read (c .before .before) (c .end .given .0 .0) (c .end .given .0 .0)
+passes c = passes-told _ _ _ _ (c .before .before .read-packet .ensures) _ (c .end .given .1)
+
+keeps : (c : tie.After-a Inv-loop μ-loop) → Read (c .before .before) (c .a .given .0 .0) (c .a .given .0 .1 .0)
+keeps c = keeps-told _ _ _ _ (c .before .before .read-packet .ensures) _ _ (c .a .given .1)
+
+-- ---- The needs
 
 loop-holds : tie.Need-loop-holds Inv-loop μ-loop
 loop-holds c = λ ps q r. joining-starts _ _ _ ps q _ _
@@ -32,36 +58,35 @@ enum-told c = search needs
 
 same-length : tie.Need-same-length Inv-loop μ-loop
 same-length c =
-    let s = c .before .before .before .before .before .before .before in
-    c .before .before .before .before .loop .inv (s .pre .0) (s .pre .1) (s .pre .2) .size
+    let l = turn (c .before .before) in
+    let g = start l .pre in
+    l .loop .inv (g .0) (g .1) (g .2) .size
 
 returns : tie.Need-returns Inv-loop μ-loop
 returns c =
-    let s = c .before .before .before .before .before .before .before in
-    let t = c .before .before .before .before in
-    absurd (joining-refused (isId (s .args .id)) (s .args .file .now) (joined (s .pre .0)) (s .args .t) (omega (arith, s .pre .2, unit-within (isId (s .args .id)) (s .args .file .now) (s .args .from) (s .pre .0) (s .pre .1))) _ _ _ _ (t .loop .inv (s .pre .0) (s .pre .1) (s .pre .2)) (c .before .before .before .loop-test .taken) _ (refused-told (isId (s .args .id)) (s .args .file .now) (t .loop .at) _ (c .before .before .read-packet .ensures) _ (c .enum-told .given .1)))
+    let r = c .before .before in
+    let l = turn r in
+    let g = start l .pre in
+    absurd (joining-refused _ _ (joined (g .0)) (start l .args .t) (omega (arith, g .2, unit-within _ _ _ (g .0) (g .1))) _ _ _ _ (l .loop .inv (g .0) (g .1) (g .2)) (r .before .loop-test .taken) _
+    (refused-told _ _ _ _ (r .read-packet .ensures) _ (c .enum-told .given .1)))
 
 enum-known-end : tie.Need-enum-known-end Inv-loop μ-loop
 enum-known-end c = search needs
 
 loop-less : tie.Need-loop-less Inv-loop μ-loop
-loop-less c =
-    let s = c .before .before .before .before .before .before .before .before in
-    let u = passes-told (isId (s .args .id)) (s .args .file .now) (c .before .before .before .before .before .loop .at) _ (c .before .before .before .read-packet .ensures) _ (c .before .end .given .1) in let l = u .after in let m = u .inside in omega arith
+loop-less c = omega (arith, passes (c .before) .after, passes (c .before) .inside)
 
 loop-again : tie.Need-loop-again Inv-loop μ-loop
 loop-again c =
-    let s = c .before .before .before .before .before .before .before .before in
-    let t = c .before .before .before .before .before in
-    λ ps q r. joining-passes (isId (s .args .id)) (s .args .file .now) (joined ps) (s .args .t) (omega (arith, r, unit-within (isId (s .args .id)) (s .args .file .now) (s .args .from) ps q)) _ _ _ _ (t .loop .inv ps q r) (c .before .before .before .before .loop-test .taken) _ _ (passes-told (isId (s .args .id)) (s .args .file .now) (t .loop .at) _ (c .before .before .before .read-packet .ensures) _ (c .before .end .given .1)) refl
+    let r = c .before .before .before in
+    let l = turn r in
+    λ ps q e. joining-passes _ _ (joined ps) (start l .args .t) (omega (arith, e, unit-within _ _ _ ps q)) _ _ _ _ (l .loop .inv ps q e) (r .before .loop-test .taken) _ _ (passes (c .before)) refl
 
 enum-known-a : tie.Need-enum-known-a Inv-loop μ-loop
 enum-known-a c = search needs
 
 sub-lesser : tie.Need-sub-lesser Inv-loop μ-loop
-sub-lesser c =
-    let s = c .before .before .before .before .before .before .before .before in
-    let u = keeps-told (isId (s .args .id)) (s .args .file .now) (c .before .before .before .before .before .loop .at) _ (c .before .before .before .read-packet .ensures) _ _ (c .before .a .given .1) in u .upto
+sub-lesser c = keeps (c .before) .upto
 
 sub-lesser-2 : tie.Need-sub-lesser-2 Inv-loop μ-loop
 sub-lesser-2 c = omega (arith, c .before .before .before .before .loop-test .taken)
@@ -71,35 +96,47 @@ lesser-requires c κs = search needs
 
 copy-requires : tie.Need-copy-requires Inv-loop μ-loop
 copy-requires c κs =
-    let s = c .before .before .before .before .before .before .before .before .before .before in
-    let t = c .before .before .before .before .before .before .before in
-    let u = keeps-told (isId (s .args .id)) (s .args .file .now) (t .loop .at) _ (c .before .before .before .before .before .read-packet .ensures) _ _ (c .before .before .before .a .given .1) in let i = u .inside in let o = u .upto in let z = t .loop .inv (s .pre .0) (s .pre .1) (s .pre .2) .size in let p = s .pre .3 in let m = c .before .lesser .ensures in (omega (arith, c .before .before .before .before .before .before .loop-test .taken), omega (arith, c .before .before .before .before .before .before .loop-test .taken))
+    let k = keeps (kept (c .before)) in
+    let r = kept (c .before) .before .before in
+    let l = turn r in
+    let g = start l .pre in
+    let i = k .inside in
+    let o = k .upto in
+    let z = l .loop .inv (g .0) (g .1) (g .2) .size in
+    let p = g .3 in
+    let m = c .before .lesser .ensures in
+    (omega (arith, r .before .loop-test .taken), omega (arith, r .before .loop-test .taken))
 
 add-have : tie.Need-add-have Inv-loop μ-loop
 add-have c =
-    let s = c .before .before .before .before .before .before .before .before .before .before .before .before .before in
-    let m = c .before .before .before .before .lesser .ensures in let p = s .pre .3 in omega (arith, c .before .before .before .before .before .before .before .before .before .loop-test .taken, s .fits .t)
+    let r = kept (cut c) .before .before in
+    let s = start (turn r) in
+    let m = cut c .lesser .ensures in
+    let p = s .pre .3 in
+    omega (arith, r .before .loop-test .taken, s .fits .t)
 
 loop-less-2 : tie.Need-loop-less-2 Inv-loop μ-loop
 loop-less-2 c =
-    let s = c .before .before .before .before .before .before .before .before .before .before .before .before .before in
-    let u = keeps-told (isId (s .args .id)) (s .args .file .now) (c .before .before .before .before .before .before .before .before .before .before .loop .at) _ (c .before .before .before .before .before .before .before .before .read-packet .ensures) _ _ (c .before .before .before .before .before .before .a .given .1) in let l = u .after in let m = u .inside in let o = u .upto in omega arith
+    let k = keeps (kept (cut c)) in
+    omega (arith, k .after, k .inside, k .upto)
 
 loop-again-2 : tie.Need-loop-again-2 Inv-loop μ-loop
 loop-again-2 c =
-    let s = c .before .before .before .before .before .before .before .before .before .before .before .before .before in
-    let t = c .before .before .before .before .before .before .before .before .before .before in
-    λ ps q r. joining-goes (isId (s .args .id)) (s .args .file .now) (joined ps) (s .args .t) (omega (arith, r, unit-within (isId (s .args .id)) (s .args .file .now) (s .args .from) ps q)) _ _ _ _ (t .loop .inv ps q r) (c .before .before .before .before .before .before .before .before .before .loop-test .taken) _ _ (keeps-told (isId (s .args .id)) (s .args .file .now) (t .loop .at) _ (c .before .before .before .before .before .before .before .before .read-packet .ensures) _ _ (c .before .before .before .before .before .before .a .given .1)) _ (c .before .before .before .before .lesser .ensures) _ (c .before .before .copy .ensures)
+    let r = kept (cut c) .before .before in
+    let l = turn r in
+    λ ps q e. joining-goes _ _ (joined ps) (start l .args .t) (omega (arith, e, unit-within _ _ _ ps q)) _ _ _ _ (l .loop .inv ps q e) (r .before .loop-test .taken) _ _ (keeps (kept (cut c))) _
+    (cut c .lesser .ensures) _ (c .before .before .copy .ensures)
 
 same-length-2 : tie.Need-same-length-2 Inv-loop μ-loop
 same-length-2 c =
-    let s = c .before .before .before .before in
-    c .before .loop .inv (s .pre .0) (s .pre .1) (s .pre .2) .size
+    let g = start (c .before) .pre in
+    c .before .loop .inv (g .0) (g .1) (g .2) .size
 
 returns-2 : tie.Need-returns-2 Inv-loop μ-loop
 returns-2 c =
-    let s = c .before .before .before .before in
-    λ ps q. let r = s .pre .2 ∙ ap (λ (l : List Packet). length (unitOf (packets l))) (ok-injective (sym (s .pre .1) ∙ q)) in joining-ends _ _ _ ps q _ _ _ _ _ r (c .before .loop .inv ps q r) (c .loop-test .left)
+    let g = start (c .before) .pre in
+    λ ps q. let e = g .2 ∙ ap (λ (l : List Packet). length (unitOf (packets l))) (ok-injective (sym (g .1) ∙ q)) in
+    joining-ends _ _ _ ps q _ _ _ _ _ e (c .before .loop .inv ps q e) (c .loop-test .left)
 
 pub join-packets-spec : {M : Type 1} → statement M
 join-packets-spec =

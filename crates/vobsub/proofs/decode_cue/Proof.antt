@@ -8,6 +8,28 @@ use borrow.Author.Needs.{needs}
 use Rattle.vobsub.proofs.decode_cue.Statement.{statement}
 use Rattle.vobsub.proofs.decode_cue.Tie as tie
 
+-- ---- Where the call starts, where its cue is there, and where its unit is found, bare or joined
+
+abbrev start : tie.After-pick-cue → tie.Start
+start c = c .before .before .before .before .before .before .before
+
+abbrev there : tie.After-extract-spu → tie.Else1
+there c = c .before .before
+
+abbrev bare : tie.After-paint-found → tie.After-n
+bare c = c .before .before .before .before .before .before
+
+abbrev joined : tie.After-paint-found2 → tie.After-n2
+joined c = c .before .before .before .before .before .before
+
+abbrev found : tie.After-n → tie.After-extract-spu
+found c = c .before .before .before .before
+
+abbrev found2 : tie.After-n2 → tie.After-extract-spu
+found2 c = c .before .before .before .before
+
+-- ---- The needs
+
 pick-cue-requires : tie.Need-pick-cue-requires
 pick-cue-requires c κs = search needs
 
@@ -16,8 +38,11 @@ first-refusal-requires c κs = search needs
 
 returns : tie.Need-returns
 returns c =
-    let s = c .before .before .before .before .before .before .before .before .before .before in
-    kept _ _ _ _ _ _ (cue-refused (s .args .text .now) (s .args .file .now) (s .args .cue) (s .args .stream) (s .args .scratch .now) (s .args .pixels .now) (s .args .words .now) (s .args .canvas .now) _ (c .before .before .before .pick-cue .ensures .0) (c .before .if1 .taken) _ (c .first-refusal .ensures))
+    let p = c .before .before .before in
+    let a = start p .args in
+    kept _ _ _ _ _ _
+    (cue-refused (a .text .now) (a .file .now) (a .cue) (a .stream) (a .scratch .now) (a .pixels .now) (a .words .now) (a .canvas .now) _
+    (p .pick-cue .ensures .0) (c .before .if1 .taken) _ (c .first-refusal .ensures))
 
 extract-spu-requires : tie.Need-extract-spu-requires
 extract-spu-requires c κs = search needs
@@ -51,8 +76,15 @@ same-length-4 c = search needs
 
 returns-2 : tie.Need-returns-2
 returns-2 c =
-    let s = c .before .before .before .before .before .before .before .before .before .before .before .before .before .before .before .before .before .before .before .before .before .before .before .before .before .before .before in
-    kept _ _ _ _ _ _ (unit-some (s .args .text .now) (s .args .file .now) (s .args .cue) (s .args .stream) (s .args .scratch .now) (s .args .pixels .now) (s .args .words .now) (s .args .canvas .now) _ (c .before .before .before .before .before .before .before .before .before .before .before .before .before .before .before .before .before .before .before .before .pick-cue .ensures .0) (c .before .before .before .before .before .before .before .before .before .before .before .before .before .before .before .before .before .before .if1 .left) _ _ (named (c .before .before .before .before .before .before .before .before .before .before .before .before .n .given .1) (c .before .before .before .before .before .before .before .before .before .before .before .before .before .before .before .before .extract-spu .ensures .0)) (λ n q. let z : _≡_ {A = ℕ} 0 1 = cc in omega arith) _ _ _ _ (c .before .before .before .before .before .before .paint-found .ensures))
+    let f = c .before .before .before .before .before .before in
+    let n = bare f in
+    let u = found n in
+    let p = there u .before .before in
+    let a = start p .args in
+    kept _ _ _ _ _ _
+    (unit-some (a .text .now) (a .file .now) (a .cue) (a .stream) (a .scratch .now) (a .pixels .now) (a .words .now) (a .canvas .now) _
+    (p .pick-cue .ensures .0) (there u .if1 .left) _ _ (named (n .n .given .1) (u .extract-spu .ensures .0))
+    (λ m q. let z : _≡_ {A = ℕ} 0 1 = cc in omega arith) _ _ _ _ (f .paint-found .ensures))
 
 same-length-5 : tie.Need-same-length-5
 same-length-5 c = search needs
@@ -68,16 +100,27 @@ same-length-8 c = search needs
 
 returns-3 : tie.Need-returns-3
 returns-3 c =
-    let s = c .before .before .before .before .before .before .before .before .before .before .before .before .before .before .before .before .before .before .before .before .before .before .before .before .before .before .before in
-    kept _ _ _ _ _ _ (unit-some (s .args .text .now) (s .args .file .now) (s .args .cue) (s .args .stream) (s .args .scratch .now) (s .args .pixels .now) (s .args .words .now) (s .args .canvas .now) _ (c .before .before .before .before .before .before .before .before .before .before .before .before .before .before .before .before .before .before .before .before .pick-cue .ensures .0) (c .before .before .before .before .before .before .before .before .before .before .before .before .before .before .before .before .before .before .if1 .left) _ _ (named (c .before .before .before .before .before .before .before .before .before .before .before .before .n2 .given .1) (c .before .before .before .before .before .before .before .before .before .before .before .before .before .before .before .before .extract-spu .ensures .0)) (λ n q. let z : _≡_ {A = ℕ} 0 1 = cc in omega arith) _ _ _ _ (c .before .before .before .before .before .before .paint-found2 .ensures))
+    let f = c .before .before .before .before .before .before in
+    let n = joined f in
+    let u = found2 n in
+    let p = there u .before .before in
+    let a = start p .args in
+    kept _ _ _ _ _ _
+    (unit-some (a .text .now) (a .file .now) (a .cue) (a .stream) (a .scratch .now) (a .pixels .now) (a .words .now) (a .canvas .now) _
+    (p .pick-cue .ensures .0) (there u .if1 .left) _ _ (named (n .n2 .given .1) (u .extract-spu .ensures .0))
+    (λ m q. let z : _≡_ {A = ℕ} 0 1 = cc in omega arith) _ _ _ _ (f .paint-found2 .ensures))
 
 same-length-9 : tie.Need-same-length-9
 same-length-9 c = search needs
 
 returns-4 : tie.Need-returns-4
 returns-4 c =
-    let s = c .before .before .before .before .before .before .before .before .before .before .before .before .before .before .before .before in
-    kept _ _ _ _ _ _ (unit-none (s .args .text .now) (s .args .file .now) (s .args .cue) (s .args .stream) (s .args .scratch .now) (s .args .pixels .now) (s .args .words .now) (s .args .canvas .now) _ (c .before .before .before .before .before .before .before .before .before .pick-cue .ensures .0) (c .before .before .before .before .before .before .before .if1 .left) _ _ _ (c .before .before .before .before .before .extract-spu .ensures .0) (c .before .number .given .1))
+    let u = c .before .before .before .before .before in
+    let p = there u .before .before in
+    let a = start p .args in
+    kept _ _ _ _ _ _
+    (unit-none (a .text .now) (a .file .now) (a .cue) (a .stream) (a .scratch .now) (a .pixels .now) (a .words .now) (a .canvas .now) _
+    (p .pick-cue .ensures .0) (there u .if1 .left) _ _ _ (u .extract-spu .ensures .0) (c .before .number .given .1))
 
 pub decode-cue-spec : {M : Type 1} → statement M
 decode-cue-spec =
