@@ -20,6 +20,6 @@ module _ (id : ℕ → Bool) where
   unfoldable pub joinedAt : List ℕ → ℕ → ℕ → Res Form
   joinedAt f p n = withScratch n (mapRes packets (packetsAt id f p []))
 
--- the unit of stream s: 32 comes first (FORMAT 2.10)
+-- the unit of stream s: 32 comes first (FORMAT 2.6)
 unfoldable pub streamUnit : ℕ → List ℕ → ℕ → ℕ → Res Form
 streamUnit s f p n = check (leb s top-stream) bad-stream (unitAt (streamId s) f p n)
