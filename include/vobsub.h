@@ -37,16 +37,18 @@ uint8_t vobsub_parse_pes_body(const uint8_t *pes, size_t pes_len,
 
 /* Decodes the run codes of a field, which has field_len bytes, into rows start_row, start_row + 2, .. of a map of that width and height, one
    byte a pixel from pixels[0] on. pixels has pixels_len bytes; width, height and start_row may be any numbers. *codes is set to the number of
-   codes read. codes is not null, and the three regions do not overlap. Only the rows named are written; on a refusal (22, 26) pixels and
-   *codes are as they were. It takes up to 129 KiB of stack. */
+   codes read, and *clipped to how many of them name a run longer than what was left of their row; a fill never does. codes and clipped are not
+   null, and the four regions do not overlap. Only the rows named are written; on a refusal (22, 26) pixels, *codes and *clipped are as they
+   were. It takes up to 129 KiB of stack. */
 uint8_t vobsub_decode_rle_field(const uint8_t *field, size_t field_len,
                                 size_t width, size_t height, size_t start_row,
                                 uint8_t *pixels, size_t pixels_len,
-                                size_t *codes);
+                                size_t *codes, size_t *clipped);
 
 /* Places of the numbers of a record: area, words of four selectors and of four alphas (colour 0 in the top nibble), whether there is a start
    and its delay, whether there is a stop and its delay (both in 1024/90000 of a second), whether a start is forced, the places of the two
-   fields, whether there is a colour change, the number of words that the bands take, the number of codes read. What is not given is 0. */
+   fields, whether there is a colour change, the number of words that the bands take, the number of codes read, the number of those that are
+   clipped: longer than what was left of their row. What is not given is 0. */
 enum vobsub_number {
     VOBSUB_X1, VOBSUB_Y1, VOBSUB_X2, VOBSUB_Y2,
     VOBSUB_PALETTE_SEL, VOBSUB_ALPHA,
@@ -55,7 +57,7 @@ enum vobsub_number {
     VOBSUB_FORCED_DISPLAY,
     VOBSUB_TOP_RLE_OFF, VOBSUB_BOT_RLE_OFF,
     VOBSUB_SAW_CHG_COLCON, VOBSUB_BAND_WORDS,
-    VOBSUB_CODES,
+    VOBSUB_CODES, VOBSUB_CLIPPED,
     VOBSUB_NUMBERS
 };
 
@@ -112,13 +114,13 @@ uint8_t vobsub_pick_cue(const uint8_t *text, size_t text_len,
 
 /* Places of the numbers of a painted cue: whether another cue follows (1) or none (0), the microseconds up to that one, 0 where none follows,
    the delays of the unit's first start and last stop (both in 1024/90000 of a second, 0 where there is none), the place of the first pixel on
-   the display, the size, the number of codes read. */
+   the display, the size, the number of codes read, the number of those that are clipped. */
 enum vobsub_shown_number {
     VOBSUB_SHOWN_HAS_DURATION, VOBSUB_SHOWN_DURATION,
     VOBSUB_SHOWN_START_DELAY, VOBSUB_SHOWN_STOP_DELAY,
     VOBSUB_SHOWN_X1, VOBSUB_SHOWN_Y1,
     VOBSUB_SHOWN_WIDTH, VOBSUB_SHOWN_HEIGHT,
-    VOBSUB_SHOWN_CODES,
+    VOBSUB_SHOWN_CODES, VOBSUB_SHOWN_CLIPPED,
     VOBSUB_SHOWN_NUMBERS
 };
 

@@ -1,6 +1,6 @@
-// Takes the original from beside the repository (or from the folder that VOBSUB_ORIGINAL names) into the build's own folder: private items
-// opened, and an adapter appended. Nothing else is changed, but in the copies that are meant to differ: one that counts codes, and, with the
-// feature `mutants`, one for each line of mutants.txt.
+// Takes the original from beside the repository (or from the folder that VOBSUB_ORIGINAL names) into the build's own
+// folder: private items opened, and an adapter appended. Nothing else is changed, but in the copies that are meant to
+// differ: one that counts codes and clipped codes, and, with the feature `mutants`, one for each line of mutants.txt.
 use std::env;
 use std::fs;
 use std::path::{Path, PathBuf};
@@ -50,6 +50,16 @@ fn changed(text: &str, function: &str, token: &str, nth: usize, by: &str) -> Str
     panic!("{function} has {token} {seen} times, not {nth}");
 }
 
+// What the counting copy has more than the original. Every turn of the field decoder's loop reads one code. It is
+// clipped where its run passes the width and its count is not 0, which is that of a fill. The two last counts are not
+// compared; they tell what requests meet.
+const COUNTING: [(&str, &str); 4] = [
+    ("while row < height {", "while row < height { crate::count(|c| c.codes += 1);"),
+    ("let end =", "if count != 0 && col + run > width { crate::count(|c| c.clipped += 1); } let end ="),
+    ("let end =", "if count != 0 && col + run == width { crate::count(|c| c.exact += 1); } let end ="),
+    ("(0, (combined", "if (combined >> 2) as usize > width - col { crate::count(|c| c.long_fills += 1); } (0, (combined"),
+];
+
 fn write(out: &Path, name: &str, text: &str, adapter: &str) -> String {
     let path = out.join(format!("{name}.rs"));
     fs::write(&path, format!("{text}\n{adapter}")).expect("a file of the build");
@@ -75,8 +85,7 @@ fn main() {
     let adapter = fs::read_to_string(here.join("src/adapter.rs")).expect("the adapter");
     let mut modules = write(&out, "original", &text, &adapter);
 
-    // every turn of the field decoder's loop reads one code
-    let counting = changed(&text, "decode_rle_field", "while row < height {", 1, "while row < height { crate::count_a_code();");
+    let counting = COUNTING.iter().fold(text.clone(), |text, (token, by)| changed(&text, "decode_rle_field", token, 1, by));
     modules += &write(&out, "counting", &counting, &adapter);
 
     modules += "pub const MUTANTS: &[(&str, crate::side::Side)] = &[\n";
@@ -87,8 +96,12 @@ fn main() {
             let parts: Vec<&str> = line.split('\t').collect();
             let [function, token, nth, by] = parts[..] else { panic!("a line of mutants.txt: {line}") };
             let name = format!("mutant_{i}");
-            mutants += &write(&out, &name, &changed(&text, function, token, nth.parse().unwrap(), by), &adapter);
-            modules += &format!("    ({:?}, {name}::adapter::SIDE),\n", format!("{function}: {token} ({nth}) for {by}"));
+            let (from, function, side) = match function.strip_prefix("counting ") {
+                None => (&text, function, format!("{name}::adapter::SIDE")),
+                Some(function) => (&counting, function, format!("crate::side::Side {{ counting: {name}::adapter::COUNTING, ..original::adapter::SIDE }}")),
+            };
+            mutants += &write(&out, &name, &changed(from, function, token, nth.parse().unwrap(), by), &adapter);
+            modules += &format!("    ({:?}, {side}),\n", format!("{}: {token} ({nth}) for {by}", parts[0]));
         }
     }
     modules += "];\n";

@@ -7,12 +7,13 @@
 
 #include "vobsub.h"
 
-/* two languages, each a unit of 33 bytes in two packets: stream 0 has the id 0x20 before its bytes, stream 1 has 0x21 */
+/* two languages, each a unit of 33 bytes in two packets: stream 0 has the id 0x20 before its bytes, stream 1 has 0x21;
+   the last code of stream 1, 0xD, names three pixels in a row of two */
 static const uint8_t own[] = {
     0x00, 0x00, 0x01, 0xBD, 0x00, 0x11, 0x80, 0x00, 0x00, 0x20,
     0x00, 0x21, 0x00, 0x09, 0x00, 0x01, 0x60, 0x00, 0x30, 0x00, 0x00, 0x00, 0x09,
     0x00, 0x00, 0x01, 0xBD, 0x00, 0x17, 0x80, 0x00, 0x00, 0x21,
-    0x00, 0x21, 0x00, 0x09, 0x70, 0x00, 0x20, 0x00, 0x01, 0x00, 0x00, 0x00, 0x09, 0x03, 0x01, 0x32, 0x04, 0x0F, 0xFF,
+    0x00, 0x21, 0x00, 0x09, 0x70, 0x00, 0x20, 0xD0, 0x00, 0x00, 0x00, 0x00, 0x09, 0x03, 0x01, 0x32, 0x04, 0x0F, 0xFF,
     0x00, 0x00, 0x01, 0xBD, 0x00, 0x18, 0x80, 0x00, 0x00, 0x20,
     0x03, 0x01, 0x32, 0x04, 0x0F, 0xFF, 0x05, 0x00, 0x00, 0x01, 0x00, 0x00, 0x01, 0x06, 0x00, 0x04, 0x00, 0x06, 0x01, 0xFF,
     0x00, 0x00, 0x01, 0xBD, 0x00, 0x12, 0x80, 0x00, 0x00, 0x21,
@@ -29,7 +30,8 @@ static const char index_text[] =
 static uint8_t scratch[65535], pixels[4096 * 4096];
 static uint16_t bands[65536];
 
-/* The line of a cue of the small title in one stream, and its pixels as red, green, blue and alpha. */
+/* The line of a cue of the small title in one stream, with the number of its clipped codes, and its pixels as red,
+   green, blue and alpha. */
 static void paint(size_t cue, size_t stream)
 {
     uint8_t canvas[16], refusal;
@@ -51,7 +53,8 @@ static void paint(size_t cue, size_t stream)
         printf("-");
     for (i = VOBSUB_SHOWN_X1; i <= VOBSUB_SHOWN_HEIGHT; i++)
         printf(" %" PRIu64, numbers[i]);
-    printf(" %" PRIu64 " %" PRIu64 " %" PRIu64 "\n", numbers[VOBSUB_SHOWN_START_DELAY], numbers[VOBSUB_SHOWN_STOP_DELAY], numbers[VOBSUB_SHOWN_CODES]);
+    printf(" %" PRIu64 " %" PRIu64, numbers[VOBSUB_SHOWN_START_DELAY], numbers[VOBSUB_SHOWN_STOP_DELAY]);
+    printf(" %" PRIu64 ", %" PRIu64 " clipped\n", numbers[VOBSUB_SHOWN_CODES], numbers[VOBSUB_SHOWN_CLIPPED]);
     for (y = 0; y < numbers[VOBSUB_SHOWN_HEIGHT]; y++) {
         for (x = 0; x < numbers[VOBSUB_SHOWN_WIDTH]; x++) {
             for (i = 0; i < 4; i++)
@@ -113,7 +116,7 @@ static int list(const uint8_t *file, size_t file_len, size_t position, size_t st
         printf("stops after %zu\n", numbers[VOBSUB_STOP_DELAY_RAW]);
     for (i = 0; i < numbers[VOBSUB_BAND_WORDS]; i += 3 + 3 * (size_t)bands[i + 2])
         printf("lines %u to %u: %u entries\n", bands[i], bands[i + 1], bands[i + 2]);
-    printf("%zu codes\n", numbers[VOBSUB_CODES]);
+    printf("%zu codes, %zu clipped\n", numbers[VOBSUB_CODES], numbers[VOBSUB_CLIPPED]);
     if (width <= 100) {
         for (y = 0; y < height; y++) {
             for (x = 0; x < width; x++)

@@ -3,7 +3,7 @@ use crate::oxideav_core;
 
 pub mod adapter {
     use super::*;
-    use crate::side::{Decoded, Index, Painted, Seen, Side, Spot};
+    use crate::side::{Counting, Decoded, Index, Painted, Seen, Side, Spot};
 
     fn word(four: [u8; 4]) -> u16 {
         four.iter().fold(0, |w, &n| w << 4 | n as u16)
@@ -66,6 +66,7 @@ pub mod adapter {
             spu.saw_chg_colcon as usize,
             words.len(),
             0,
+            0,
         ];
         Ok(Decoded { numbers, width: width as usize, height: height as usize, map, words })
     }
@@ -121,5 +122,6 @@ pub mod adapter {
         parse_idx(text).map(|idx| idx.cues.iter().map(|c| c.1 as usize).collect()).unwrap_or_default()
     }
 
-    pub const SIDE: Side = Side { pes_body, spot, bands, field, unit, positions, index, duration, seen, write: build_demo_spu };
+    pub const COUNTING: Counting = Counting { field, unit };
+    pub const SIDE: Side = Side { pes_body, spot, bands, field, unit, positions, index, duration, seen, write: build_demo_spu, counting: crate::counting::adapter::COUNTING };
 }

@@ -14,18 +14,47 @@ include!(concat!(env!("OUT_DIR"), "/variants.rs"));
 
 pub const VOBSUB_CODEC_ID: &str = "vobsub";
 
+// What the counting copy of the original counts (see build.rs).
+#[derive(Clone, Copy)]
+pub struct Counts {
+    // Codes read, fills and clipped ones included.
+    pub codes: usize,
+    // Those whose run is longer than what was left of their row.
+    pub clipped: usize,
+    // Those whose run is exactly as long.
+    pub exact: usize,
+    // Fills whose number, divided by 4, is above what was left.
+    pub long_fills: usize,
+}
+
+pub const CLIPPED: &str = "accepted, with a clipped code";
+pub const EXACT: &str = "accepted, with a code exactly as long as what is left of its row";
+pub const LONG_FILL: &str = "accepted, with a fill whose v/4 is above what is left of its row";
+
+impl Counts {
+    const NONE: Counts = Counts { codes: 0, clipped: 0, exact: 0, long_fills: 0 };
+
+    // What an accepted request with these counts is counted for.
+    pub fn met(self) -> impl Iterator<Item = &'static str> {
+        let counts = [(self.clipped, CLIPPED), (self.exact, EXACT), (self.long_fills, LONG_FILL)];
+        counts.into_iter().filter(|c| c.0 > 0).map(|c| c.1)
+    }
+}
+
 thread_local! {
-    static CODES: Cell<usize> = const { Cell::new(0) };
+    static COUNTS: Cell<Counts> = const { Cell::new(Counts::NONE) };
 }
 
-// Called by the counting copy of the original for each code that it reads.
-pub fn count_a_code() {
-    CODES.with(|c| c.set(c.get() + 1));
+// Called by the counting copy.
+pub fn count(f: impl FnOnce(&mut Counts)) {
+    let mut counts = COUNTS.get();
+    f(&mut counts);
+    COUNTS.set(counts);
 }
 
-// How many codes the counting copy read in f.
-pub fn codes_read<T>(f: impl FnOnce() -> T) -> usize {
-    CODES.with(|c| c.set(0));
+// What the counting copy counts in f.
+pub fn counted<T>(f: impl FnOnce() -> T) -> Counts {
+    COUNTS.set(Counts::NONE);
     f();
-    CODES.with(|c| c.get())
+    COUNTS.get()
 }

@@ -1,11 +1,12 @@
 // The static library's functions (include/vobsub.h), on slices.
-pub const NUMBERS: usize = 16;
+pub const NUMBERS: usize = 17;
 pub const STARTED: usize = 6;
 pub const START: usize = 7;
 pub const STOPPED: usize = 8;
 pub const STOP: usize = 9;
 pub const BAND_WORDS: usize = 14;
 pub const CODES: usize = 15;
+pub const CLIPPED: usize = 16;
 
 // Places of the numbers of an index text, and of those of a cue.
 pub const INDEX_NUMBERS: usize = 4;
@@ -20,14 +21,15 @@ pub const DURATION: usize = 2;
 pub const CUE_COLOURED: usize = 3;
 pub const COLOURS: usize = 48;
 
-// How many numbers of a painted cue there are: whether it has a duration, the duration, both delays, x1, y1, width, height, codes.
-pub const SHOWN_NUMBERS: usize = 9;
+// How many numbers of a painted cue there are: whether it has a duration, the duration, both delays, x1, y1, width,
+// height, codes, clipped codes.
+pub const SHOWN_NUMBERS: usize = 10;
 
 unsafe extern "C" {
     fn vobsub_parse_pes_body(pes: *const u8, pes_len: usize, body: *mut usize) -> u8;
     fn vobsub_extract_spu(file: *const u8, file_len: usize, position: usize, stream: usize, scratch: *mut u8, scratch_len: usize, length: *mut usize, joined: *mut u8) -> u8;
     fn vobsub_parse_chg_colcon_payload(payload: *const u8, payload_len: usize, words: *mut u16, words_len: usize, at: usize, count: *mut usize) -> u8;
-    fn vobsub_decode_rle_field(field: *const u8, field_len: usize, width: usize, height: usize, start_row: usize, pixels: *mut u8, pixels_len: usize, codes: *mut usize) -> u8;
+    fn vobsub_decode_rle_field(field: *const u8, field_len: usize, width: usize, height: usize, start_row: usize, pixels: *mut u8, pixels_len: usize, codes: *mut usize, clipped: *mut usize) -> u8;
     fn vobsub_parse_and_decode_spu(unit: *const u8, unit_len: usize, pixels: *mut u8, pixels_len: usize, words: *mut u16, words_len: usize, numbers: *mut usize) -> u8;
     fn vobsub_parse_idx(text: *const u8, text_len: usize, starts: *mut i64, starts_len: usize, positions: *mut u64, positions_len: usize, palette: *mut u8, numbers: *mut usize) -> u8;
     fn vobsub_pick_cue(text: *const u8, text_len: usize, cue: usize, start: *mut i64, palette: *mut u8, numbers: *mut u64) -> u8;
@@ -64,8 +66,8 @@ pub fn bands(payload: &[u8], words: &mut [u16], at: usize, count: &mut usize) ->
     unsafe { vobsub_parse_chg_colcon_payload(payload.as_ptr(), payload.len(), words.as_mut_ptr(), words.len(), at, count) }
 }
 
-pub fn field(field: &[u8], width: usize, height: usize, start_row: usize, pixels: &mut [u8], codes: &mut usize) -> u8 {
-    unsafe { vobsub_decode_rle_field(field.as_ptr(), field.len(), width, height, start_row, pixels.as_mut_ptr(), pixels.len(), codes) }
+pub fn field(field: &[u8], width: usize, height: usize, start_row: usize, pixels: &mut [u8], codes: &mut usize, clipped: &mut usize) -> u8 {
+    unsafe { vobsub_decode_rle_field(field.as_ptr(), field.len(), width, height, start_row, pixels.as_mut_ptr(), pixels.len(), codes, clipped) }
 }
 
 pub fn unit(unit: &[u8], pixels: &mut [u8], words: &mut [u16], numbers: &mut [usize; NUMBERS]) -> u8 {

@@ -1,4 +1,5 @@
 // The original in the terms in which both sides are compared.
+use crate::port::NUMBERS;
 
 // What the original has at a position of a file.
 pub enum Spot {
@@ -10,10 +11,10 @@ pub enum Spot {
     Unit { unit: Vec<u8>, joined: bool, same: bool },
 }
 
-// A unit, with the numbers of its record in the order of include/vobsub.h. Whether there is a start or a stop, and the number of codes, are 0:
-// the original does not say.
+// A unit, with the numbers of its record in the order of include/vobsub.h. Whether there is a start or a stop, and the
+// numbers of codes and of clipped codes, are 0: the original does not say.
 pub struct Decoded {
-    pub numbers: [usize; 16],
+    pub numbers: [usize; NUMBERS],
     pub width: usize,
     pub height: usize,
     pub map: Vec<u8>,
@@ -64,6 +65,14 @@ pub struct Side {
     // The cue with that number; `alone` leaves out all others, and with them its duration.
     pub seen: fn(&Index, &[u8], usize, bool) -> Seen,
     pub write: fn(u16, u16, &[u8]) -> Vec<u8>,
+    pub counting: Counting,
+}
+
+// The copy that counts codes, which the original does not: called in `counted`.
+#[derive(Clone, Copy)]
+pub struct Counting {
+    pub field: fn(&[u8], usize, usize, usize, &mut [u8]) -> Result<(), String>,
+    pub unit: fn(&[u8]) -> Result<Decoded, String>,
 }
 
 // The refusal that a message of the original stands for, by a part of the message. The first part that is found counts.

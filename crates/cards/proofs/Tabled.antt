@@ -8,8 +8,8 @@ use lib.ListN.{length, getD, replicate}
 use Rattle.outcome.specs.Outcome.{ok}
 use Rattle.outcome.specs.Lists.{listFuel, listFrom}
 use Rattle.grammar.specs.Bytes.{word, nibble, nibbles}
-use Rattle.grammar.specs.Rows.{paints, afterCodes, align}
-use Rattle.grammar.specs.Pixels.{rowPixels, codesIn, indexMap}
+use Rattle.grammar.specs.Rows.{paints, overshoots, afterCodes, align}
+use Rattle.grammar.specs.Pixels.{rowPixels, codesIn, clippedRow, clippedIn, indexMap}
 use Rattle.grammar.specs.Record.{told, commandsOf, commandsIn, firstDelay, lastDelay, lastNumbers, stands, allBands}
 use Rattle.grammar.specs.Picture.{topEnd}
 use Rattle.grammar.specs.Packets.{joined, unitOf}
@@ -55,11 +55,11 @@ abbrev wantOf : List Card → List (List ℕ)
 wantOf = map (λ (c : Card). c .want)
 
 bytes-hold : gotOf bytes ≡ wantOf bytes
-unfolding bytes code reader field fields unit found held unitFor written upper evens runs cut marksOf digits nibblesOf packed pictureRows fieldNibbles allColours pictureOk sizedUnit demoAt demo.unitOf position start numeral startOf all split unsigned signed bare text-lines.fields steps timeAt joined unitOf leading header1At headerAt bodyAt keptAt packAt privateAt kindAt packetAt packetsAt isBare formAt ps-unit.unitAt streamUnit listFuel listFrom word nibble nibbles paints afterCodes align rowPixels codesIn indexMap topEnd codeFrom codeAt rowAt fieldAt rowsFrom paintField decoded rowCounts fieldCounts weave lowerAt fieldsAt plainAt changeAt orderAt commandAt commandsAt blockAt blocksAt headFits chainAt controlAt spuOf entryWords bandWords rowsAt unitAt told commandsOf commandsIn firstDelay lastDelay lastNumbers stands allBands
+unfolding bytes code reader field fields unit found held unitFor written upper evens runs cut marksOf digits nibblesOf packed pictureRows fieldNibbles allColours pictureOk sizedUnit demoAt demo.unitOf position start numeral startOf all split unsigned signed bare text-lines.fields steps timeAt joined unitOf leading header1At headerAt bodyAt keptAt packAt privateAt kindAt packetAt packetsAt isBare formAt ps-unit.unitAt streamUnit listFuel listFrom word nibble nibbles paints overshoots afterCodes align rowPixels codesIn clippedRow clippedIn indexMap topEnd codeFrom codeAt rowAt fieldAt rowsFrom paintField decoded rowCounts fieldCounts weave lowerAt fieldsAt plainAt changeAt orderAt commandAt commandsAt blockAt blocksAt headFits chainAt controlAt spuOf entryWords bandWords rowsAt unitAt told commandsOf commandsIn firstDelay lastDelay lastNumbers stands allBands
 bytes-hold = refl
 
 lines-hold : gotOf lines ≡ wantOf lines
-unfolding lines titleLines cueLines front rest shorn trim strip checked cuesOf cueAt durationOf firstOf lastOf partsAt text-lines.lineOf linesIn textIn digitsIn decimal shownLine refusedLine cuesLine fileLine unitFor shownFor code field fields unit found written upper evens runs cut marksOf digits nibblesOf packed pictureRows fieldNibbles allColours pictureOk sizedUnit demoAt demo.unitOf position start numeral startOf all split unsigned signed bare text-lines.fields steps timeAt joined unitOf leading header1At headerAt bodyAt keptAt packAt privateAt kindAt packetAt packetsAt isBare formAt ps-unit.unitAt streamUnit listFuel listFrom word nibble nibbles paints afterCodes align rowPixels codesIn indexMap topEnd codeFrom codeAt rowAt fieldAt rowsFrom paintField decoded rowCounts fieldCounts weave lowerAt fieldsAt plainAt changeAt orderAt commandAt commandsAt blockAt blocksAt headFits chainAt controlAt spuOf entryWords bandWords rowsAt unitAt told commandsOf commandsIn firstDelay lastDelay lastNumbers stands allBands
+unfolding lines titleLines cueLines front rest shorn trim strip checked cuesOf cueAt durationOf firstOf lastOf partsAt text-lines.lineOf linesIn textIn digitsIn decimal shownLine refusedLine cuesLine fileLine unitFor shownFor code field fields unit found written upper evens runs cut marksOf digits nibblesOf packed pictureRows fieldNibbles allColours pictureOk sizedUnit demoAt demo.unitOf position start numeral startOf all split unsigned signed bare text-lines.fields steps timeAt joined unitOf leading header1At headerAt bodyAt keptAt packAt privateAt kindAt packetAt packetsAt isBare formAt ps-unit.unitAt streamUnit listFuel listFrom word nibble nibbles paints overshoots afterCodes align rowPixels codesIn clippedRow clippedIn indexMap topEnd codeFrom codeAt rowAt fieldAt rowsFrom paintField decoded rowCounts fieldCounts weave lowerAt fieldsAt plainAt changeAt orderAt commandAt commandsAt blockAt blocksAt headFits chainAt controlAt spuOf entryWords bandWords rowsAt unitAt told commandsOf commandsIn firstDelay lastDelay lastNumbers stands allBands
 lines-hold = refl
 
 -- a time at the end of its range, and one past it
@@ -73,15 +73,15 @@ leave-holds = refl
 
 -- the title of 2 by 2: its cues, and its line
 small-cues : cuesIn small-text ≡ ok (small-cue ∷ [])
-unfolding small-text front rest shorn trim strip checked cuesOf cueAt durationOf firstOf lastOf partsAt text-lines.lineOf linesIn textIn digitsIn decimal shownLine refusedLine cuesLine fileLine unitFor shownFor code field fields unit found written upper evens runs cut marksOf digits nibblesOf packed pictureRows fieldNibbles allColours pictureOk sizedUnit demoAt demo.unitOf position start numeral startOf all split unsigned signed bare text-lines.fields steps timeAt joined unitOf leading header1At headerAt bodyAt keptAt packAt privateAt kindAt packetAt packetsAt isBare formAt ps-unit.unitAt streamUnit listFuel listFrom word nibble nibbles paints afterCodes align rowPixels codesIn indexMap topEnd codeFrom codeAt rowAt fieldAt rowsFrom paintField decoded rowCounts fieldCounts weave lowerAt fieldsAt plainAt changeAt orderAt commandAt commandsAt blockAt blocksAt headFits chainAt controlAt spuOf entryWords bandWords rowsAt unitAt told commandsOf commandsIn firstDelay lastDelay lastNumbers stands allBands
+unfolding small-text front rest shorn trim strip checked cuesOf cueAt durationOf firstOf lastOf partsAt text-lines.lineOf linesIn textIn digitsIn decimal shownLine refusedLine cuesLine fileLine unitFor shownFor code field fields unit found written upper evens runs cut marksOf digits nibblesOf packed pictureRows fieldNibbles allColours pictureOk sizedUnit demoAt demo.unitOf position start numeral startOf all split unsigned signed bare text-lines.fields steps timeAt joined unitOf leading header1At headerAt bodyAt keptAt packAt privateAt kindAt packetAt packetsAt isBare formAt ps-unit.unitAt streamUnit listFuel listFrom word nibble nibbles paints overshoots afterCodes align rowPixels codesIn clippedRow clippedIn indexMap topEnd codeFrom codeAt rowAt fieldAt rowsFrom paintField decoded rowCounts fieldCounts weave lowerAt fieldsAt plainAt changeAt orderAt commandAt commandsAt blockAt blocksAt headFits chainAt controlAt spuOf entryWords bandWords rowsAt unitAt told commandsOf commandsIn firstDelay lastDelay lastNumbers stands allBands
 small-cues = refl
 
 small-shows : shownFor (small-cue ∷ []) small-file 0 ≡ ok small-shown
-unfolding small-file front rest shorn trim strip checked cuesOf cueAt durationOf firstOf lastOf partsAt text-lines.lineOf linesIn textIn digitsIn decimal shownLine refusedLine cuesLine fileLine unitFor shownFor code field fields unit found written upper evens runs cut marksOf digits nibblesOf packed pictureRows fieldNibbles allColours pictureOk sizedUnit demoAt demo.unitOf position start numeral startOf all split unsigned signed bare text-lines.fields steps timeAt joined unitOf leading header1At headerAt bodyAt keptAt packAt privateAt kindAt packetAt packetsAt isBare formAt ps-unit.unitAt streamUnit listFuel listFrom word nibble nibbles paints afterCodes align rowPixels codesIn indexMap topEnd codeFrom codeAt rowAt fieldAt rowsFrom paintField decoded rowCounts fieldCounts weave lowerAt fieldsAt plainAt changeAt orderAt commandAt commandsAt blockAt blocksAt headFits chainAt controlAt spuOf entryWords bandWords rowsAt unitAt told commandsOf commandsIn firstDelay lastDelay lastNumbers stands allBands
+unfolding small-file front rest shorn trim strip checked cuesOf cueAt durationOf firstOf lastOf partsAt text-lines.lineOf linesIn textIn digitsIn decimal shownLine refusedLine cuesLine fileLine unitFor shownFor code field fields unit found written upper evens runs cut marksOf digits nibblesOf packed pictureRows fieldNibbles allColours pictureOk sizedUnit demoAt demo.unitOf position start numeral startOf all split unsigned signed bare text-lines.fields steps timeAt joined unitOf leading header1At headerAt bodyAt keptAt packAt privateAt kindAt packetAt packetsAt isBare formAt ps-unit.unitAt streamUnit listFuel listFrom word nibble nibbles paints overshoots afterCodes align rowPixels codesIn clippedRow clippedIn indexMap topEnd codeFrom codeAt rowAt fieldAt rowsFrom paintField decoded rowCounts fieldCounts weave lowerAt fieldsAt plainAt changeAt orderAt commandAt commandsAt blockAt blocksAt headFits chainAt controlAt spuOf entryWords bandWords rowsAt unitAt told commandsOf commandsIn firstDelay lastDelay lastNumbers stands allBands
 small-shows = refl
 
 small-line : (cuesLine 1 ++ (shownLine 0 small-shown ++ [])) ≡ small-title .want
-unfolding small-title front rest shorn trim strip checked cuesOf cueAt durationOf firstOf lastOf partsAt text-lines.lineOf linesIn textIn digitsIn decimal shownLine refusedLine cuesLine fileLine unitFor shownFor code field fields unit found written upper evens runs cut marksOf digits nibblesOf packed pictureRows fieldNibbles allColours pictureOk sizedUnit demoAt demo.unitOf position start numeral startOf all split unsigned signed bare text-lines.fields steps timeAt joined unitOf leading header1At headerAt bodyAt keptAt packAt privateAt kindAt packetAt packetsAt isBare formAt ps-unit.unitAt streamUnit listFuel listFrom word nibble nibbles paints afterCodes align rowPixels codesIn indexMap topEnd codeFrom codeAt rowAt fieldAt rowsFrom paintField decoded rowCounts fieldCounts weave lowerAt fieldsAt plainAt changeAt orderAt commandAt commandsAt blockAt blocksAt headFits chainAt controlAt spuOf entryWords bandWords rowsAt unitAt told commandsOf commandsIn firstDelay lastDelay lastNumbers stands allBands
+unfolding small-title front rest shorn trim strip checked cuesOf cueAt durationOf firstOf lastOf partsAt text-lines.lineOf linesIn textIn digitsIn decimal shownLine refusedLine cuesLine fileLine unitFor shownFor code field fields unit found written upper evens runs cut marksOf digits nibblesOf packed pictureRows fieldNibbles allColours pictureOk sizedUnit demoAt demo.unitOf position start numeral startOf all split unsigned signed bare text-lines.fields steps timeAt joined unitOf leading header1At headerAt bodyAt keptAt packAt privateAt kindAt packetAt packetsAt isBare formAt ps-unit.unitAt streamUnit listFuel listFrom word nibble nibbles paints overshoots afterCodes align rowPixels codesIn clippedRow clippedIn indexMap topEnd codeFrom codeAt rowAt fieldAt rowsFrom paintField decoded rowCounts fieldCounts weave lowerAt fieldsAt plainAt changeAt orderAt commandAt commandsAt blockAt blocksAt headFits chainAt controlAt spuOf entryWords bandWords rowsAt unitAt told commandsOf commandsIn firstDelay lastDelay lastNumbers stands allBands
 small-line = refl
 
 small-readable : readable true small-text small-file ≡ true

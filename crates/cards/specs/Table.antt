@@ -1,6 +1,6 @@
 -- The table of cards: bytes, what the definitions make of them, and what that should be. Each layer has its part.
 -- Assumes nothing: these are definitions.
-use Prim.Native.Nat.{ℕ, suc, _*_}
+use Prim.Native.Nat.{ℕ, suc, _-_, _*_, _/_}
 use mathlib.Core.Bool.{true, false, cond}
 use mathlib.Core.Option.{Option, some, none}
 use mathlib.Core.List.{List, [], _∷_, _++_}
@@ -16,8 +16,8 @@ use Rattle.idx_lines_model.specs.Lines.{timestampOf}
 use Rattle.idx_lines_model.specs.Answers.{timeAt}
 use Rattle.grammar.specs.Parts.{Part}
 use Rattle.grammar.specs.Index.{Said, size, palette, timestamp, startOf}
-use Rattle.grammar.specs.Rows.{colour, paints}
-use Rattle.grammar.specs.Pixels.{codesIn, indexMap}
+use Rattle.grammar.specs.Rows.{colour, paints, overshoots}
+use Rattle.grammar.specs.Pixels.{codesIn, clippedIn, indexMap}
 use Rattle.grammar.specs.Control.{forced-start, stop, selectors, alphas, area, offsets, colours, Block}
 use Rattle.grammar.specs.Packets.{unitOf}
 use Rattle.grammar.specs.Record.{told, delayOf, width, height}
@@ -51,9 +51,15 @@ abbrev outcome : {A : Type 0} → (A → List ℕ) → Res A → List ℕ
 outcome f (ok a) = 0 ∷ f a
 outcome f (refuse n) = n ∷ []
 
--- the code at the front of s: its nibbles, how many of 1,000 pixels it paints, and their colour
+-- the code at the front of s: its nibbles, how many of 1,000 pixels it paints, their colour, and whether it is clipped
+-- with one pixel less than a quarter of its number left, and with just as many
 unfoldable pub code : List ℕ → List ℕ
-code s = outcome (λ c. c .size ∷ paints 1000 c ∷ colour c ∷ []) (codeAt s (length s) 0)
+code s =
+    outcome
+    (λ c.
+    c .size ∷ paints 1000 c ∷ colour c ∷ cond (overshoots (c .value / 4 - 1) c) 1 0
+    ∷ cond (overshoots (c .value / 4) c) 1 0 ∷ [])
+    (codeAt s (length s) 0)
 
 -- a reader of the nibbles of s at count p: the nibble that it reads, the count after that, and the count that it aligns to
 abbrev read : Nibble → List ℕ
@@ -63,22 +69,27 @@ read (Refused n) = n ∷ []
 unfoldable pub reader : List ℕ → ℕ → List ℕ
 reader s p = read (nibbleAnswer (nibbleAt s p)) ++ pastNibble s p ∷ onByte p ∷ []
 
--- the field s read into the rows start, start + 2, .. of the map px: the number of codes, and the map
+-- the field s read into the rows start, start + 2, .. of the map px: the numbers of codes and of clipped ones, and the
+-- map
 unfoldable pub field : List ℕ → ℕ → ℕ → ℕ → List ℕ → List ℕ
-field s w h start px = outcome (λ rs. fieldCounts w rs .codes ∷ paintField w (start * w) rs px) (decoded s w h start px)
+field s w h start px =
+    outcome (λ rs. fieldCounts w rs .codes ∷ fieldCounts w rs .clipped ∷ paintField w (start * w) rs px)
+    (decoded s w h start px)
 
 -- the map px with the rows of a top field and then those of a bottom field in it
 unfoldable pub fields : List ℕ → List ℕ → ℕ → ℕ → List ℕ → List ℕ
 fields top bottom w h px =
     paintField w w (listed (decoded bottom w h 1 px)) (paintField w 0 (listed (decoded top w h 0 px)) px)
 
--- the unit u, with no map and no words lent: width, height, selectors, alphas, both delays, the number of codes, and the map
+-- the unit u, with no map and no words lent: width, height, selectors, alphas, both delays, the numbers of codes and of
+-- clipped ones, and the map
 unfoldable pub unit : List ℕ → List ℕ
 unit u =
     outcome
     (λ l.
     let t = told (l .blocks) in
-    width t ∷ height t ∷ t .selected ∷ t .alpha ∷ delayOf (t .starts) ∷ delayOf (t .stops) ∷ codesIn (l .rows) ∷ indexMap (width t) (l .rows))
+    width t ∷ height t ∷ t .selected ∷ t .alpha ∷ delayOf (t .starts) ∷ delayOf (t .stops) ∷ codesIn (l .rows)
+    ∷ clippedIn (width t) (l .rows) ∷ indexMap (width t) (l .rows))
     (unitAt u)
 
 -- the unit of stream s at the front of the file f, with 65,535 bytes of scratch
@@ -112,7 +123,8 @@ blocks =
 abbrev pub fieldsOf : Spu → List ℕ
 fieldsOf s =
     s .x1 ∷ s .y1 ∷ s .x2 ∷ s .y2 ∷ s .«palette_sel» ∷ s .alpha ∷ cond (s .started) 1 0 ∷ s .«start_delay_raw» ∷ cond (s .stopped) 1 0 ∷ s .«stop_delay_raw»
-    ∷ cond (s .«forced_display») 1 0 ∷ s .«top_rle_off» ∷ s .«bot_rle_off» ∷ cond (s .«saw_chg_colcon») 1 0 ∷ s .«band_words» ∷ s .counts .codes ∷ []
+    ∷ cond (s .«forced_display») 1 0 ∷ s .«top_rle_off» ∷ s .«bot_rle_off» ∷ cond (s .«saw_chg_colcon») 1 0
+    ∷ s .«band_words» ∷ s .counts .codes ∷ s .counts .clipped ∷ []
 
 -- a signed number: 1 where it is below 0, and how far it is from 0
 abbrev pub whole : ℤ → List ℕ
@@ -145,16 +157,18 @@ small-cue = record { start = pos 1000000; position = 0 }
 
 -- and what is shown of it
 abbrev pub small-shown : Shown
-small-shown = record { start = pos 1000000; duration = none; start-delay = 0; stop-delay = 0; x1 = 0; y1 = 0; width = 2; height = 2; codes = 3 }
+small-shown = record { start = pos 1000000; duration = none; start-delay = 0; stop-delay = 0; x1 = 0; y1 = 0; width = 2; height = 2; codes = 3; clipped = 0 }
 
--- the first cue of a text and a file, with so much of each buffer lent: start, whether it lasts and how long, both delays, origin, size, the number
--- of codes, and the canvas (FORMAT 6)
+-- the first cue of a text and a file, with so much of each buffer lent: start, whether it lasts and how long, both delays, origin, size, the numbers
+-- of codes and of clipped ones, and the canvas (FORMAT 6)
 abbrev lasting : Option ℕ → List ℕ
 lasting none = 0 ∷ []
 lasting (some d) = 1 ∷ d ∷ []
 
 abbrev pub shows : Shown → List ℕ
-shows s = whole (s .start) ++ lasting (s .duration) ++ s .start-delay ∷ s .stop-delay ∷ s .x1 ∷ s .y1 ∷ s .width ∷ s .height ∷ s .codes ∷ []
+shows s =
+    whole (s .start) ++ lasting (s .duration) ++ s .start-delay ∷ s .stop-delay ∷ s .x1 ∷ s .y1 ∷ s .width ∷ s .height
+    ∷ s .codes ∷ s .clipped ∷ []
 
 unfoldable pub cue : List ℕ → List ℕ → Lent → List ℕ
 cue text file b = outcome (λ r. shows (shown r) ++ canvasOf r) (readingIn text file (wanted 0 0) b)
@@ -180,31 +194,31 @@ stamped d =
 
 unfoldable pub bytes : List Card
 bytes =
-    -- each length of code at its least and its greatest run, and a fill (FORMAT 5.2 to 5.4)
-    card (code (0xF0 ∷ [])) (0 ∷ 1 ∷ 3 ∷ 3 ∷ [])
-    ∷ card (code (0x10 ∷ [])) (0 ∷ 2 ∷ 4 ∷ 0 ∷ [])
-    ∷ card (code (0x3F ∷ [])) (0 ∷ 2 ∷ 15 ∷ 3 ∷ [])
-    ∷ card (code (0x04 ∷ 0x00 ∷ [])) (0 ∷ 3 ∷ 16 ∷ 0 ∷ [])
-    ∷ card (code (0x0F ∷ 0xF0 ∷ [])) (0 ∷ 3 ∷ 63 ∷ 3 ∷ [])
-    ∷ card (code (0x01 ∷ 0x00 ∷ [])) (0 ∷ 4 ∷ 64 ∷ 0 ∷ [])
-    ∷ card (code (0x03 ∷ 0xFF ∷ [])) (0 ∷ 4 ∷ 255 ∷ 3 ∷ [])
-    ∷ card (code (0x00 ∷ 0xF7 ∷ [])) (0 ∷ 4 ∷ 1000 ∷ 3 ∷ [])
+    -- each length of code at its least and its greatest run, and a fill (FORMAT 5.2 to 5.4, 5.11)
+    card (code (0xF0 ∷ [])) (0 ∷ 1 ∷ 3 ∷ 3 ∷ 1 ∷ 0 ∷ [])
+    ∷ card (code (0x10 ∷ [])) (0 ∷ 2 ∷ 4 ∷ 0 ∷ 1 ∷ 0 ∷ [])
+    ∷ card (code (0x3F ∷ [])) (0 ∷ 2 ∷ 15 ∷ 3 ∷ 1 ∷ 0 ∷ [])
+    ∷ card (code (0x04 ∷ 0x00 ∷ [])) (0 ∷ 3 ∷ 16 ∷ 0 ∷ 1 ∷ 0 ∷ [])
+    ∷ card (code (0x0F ∷ 0xF0 ∷ [])) (0 ∷ 3 ∷ 63 ∷ 3 ∷ 1 ∷ 0 ∷ [])
+    ∷ card (code (0x01 ∷ 0x00 ∷ [])) (0 ∷ 4 ∷ 64 ∷ 0 ∷ 1 ∷ 0 ∷ [])
+    ∷ card (code (0x03 ∷ 0xFF ∷ [])) (0 ∷ 4 ∷ 255 ∷ 3 ∷ 1 ∷ 0 ∷ [])
+    ∷ card (code (0x00 ∷ 0xF7 ∷ [])) (0 ∷ 4 ∷ 1000 ∷ 3 ∷ 0 ∷ 0 ∷ [])
     -- a reader of one byte at each of its halves, the high one first, at the end, and past it (FORMAT 5.1, 5.6)
     ∷ card (reader (0xA5 ∷ []) 0) (0 ∷ 10 ∷ 1 ∷ 0 ∷ [])
     ∷ card (reader (0xA5 ∷ []) 1) (0 ∷ 5 ∷ 2 ∷ 2 ∷ [])
     ∷ card (reader (0xA5 ∷ []) 2) (26 ∷ 2 ∷ 2 ∷ [])
     ∷ card (reader (0xA5 ∷ []) 3) (26 ∷ 3 ∷ 4 ∷ [])
     -- a run of 64, and a fill of what is left of 65
-    ∷ card (field (0x01 ∷ 0x01 ∷ 0x00 ∷ 0x02 ∷ []) 65 1 0 (replicate 65 0)) (0 ∷ 2 ∷ replicate 64 1 ++ 2 ∷ [])
+    ∷ card (field (0x01 ∷ 0x01 ∷ 0x00 ∷ 0x02 ∷ []) 65 1 0 (replicate 65 0)) (0 ∷ 2 ∷ 0 ∷ replicate 64 1 ++ 2 ∷ [])
     -- rows 0 and 2 of three, and rows 1 and 3 of four: each next row two on, from a byte
-    ∷ card (field (0x5F ∷ 0xAF ∷ []) 1 3 0 (9 ∷ 9 ∷ 9 ∷ [])) (0 ∷ 2 ∷ 1 ∷ 9 ∷ 2 ∷ [])
-    ∷ card (field (0x5A ∷ 0x7F ∷ []) 2 4 1 (replicate 8 9)) (0 ∷ 4 ∷ 9 ∷ 9 ∷ 1 ∷ 2 ∷ 9 ∷ 9 ∷ 3 ∷ 3 ∷ [])
+    ∷ card (field (0x5F ∷ 0xAF ∷ []) 1 3 0 (9 ∷ 9 ∷ 9 ∷ [])) (0 ∷ 2 ∷ 1 ∷ 1 ∷ 9 ∷ 2 ∷ [])
+    ∷ card (field (0x5A ∷ 0x7F ∷ []) 2 4 1 (replicate 8 9)) (0 ∷ 4 ∷ 2 ∷ 9 ∷ 9 ∷ 1 ∷ 2 ∷ 9 ∷ 9 ∷ 3 ∷ 3 ∷ [])
     -- 2 by 2, 1 1 2 3: the top field, the bottom field, and both in a map that has one byte more
-    ∷ card (field (0x00 ∷ 0x01 ∷ []) 2 2 0 (9 ∷ 9 ∷ 9 ∷ 9 ∷ [])) (0 ∷ 1 ∷ 1 ∷ 1 ∷ 9 ∷ 9 ∷ [])
-    ∷ card (field (0x60 ∷ 0x00 ∷ 0x30 ∷ []) 2 2 1 (9 ∷ 9 ∷ 9 ∷ 9 ∷ [])) (0 ∷ 2 ∷ 9 ∷ 9 ∷ 2 ∷ 3 ∷ [])
+    ∷ card (field (0x00 ∷ 0x01 ∷ []) 2 2 0 (9 ∷ 9 ∷ 9 ∷ 9 ∷ [])) (0 ∷ 1 ∷ 0 ∷ 1 ∷ 1 ∷ 9 ∷ 9 ∷ [])
+    ∷ card (field (0x60 ∷ 0x00 ∷ 0x30 ∷ []) 2 2 1 (9 ∷ 9 ∷ 9 ∷ 9 ∷ [])) (0 ∷ 2 ∷ 0 ∷ 9 ∷ 9 ∷ 2 ∷ 3 ∷ [])
     ∷ card (fields (0x00 ∷ 0x01 ∷ []) (0x60 ∷ 0x00 ∷ 0x30 ∷ []) 2 2 (0 ∷ 0 ∷ 0 ∷ 0 ∷ 9 ∷ [])) (1 ∷ 1 ∷ 2 ∷ 3 ∷ 9 ∷ [])
     -- a unit of four bytes: 1 by 1, its own first bytes are the field; one whose control offset is past its end; no bytes at all
-    ∷ card (unit (0x00 ∷ 0x04 ∷ 0x00 ∷ 0x04 ∷ [])) (0 ∷ 1 ∷ 1 ∷ 0 ∷ 0 ∷ 0 ∷ 0 ∷ 1 ∷ 0 ∷ [])
+    ∷ card (unit (0x00 ∷ 0x04 ∷ 0x00 ∷ 0x04 ∷ [])) (0 ∷ 1 ∷ 1 ∷ 0 ∷ 0 ∷ 0 ∷ 0 ∷ 1 ∷ 0 ∷ 0 ∷ [])
     ∷ card (unit (0x00 ∷ 0x04 ∷ 0x00 ∷ 0x05 ∷ [])) (16 ∷ [])
     ∷ card (unit []) (15 ∷ [])
     -- 2 by 2, 1 1 2 3, as a whole unit: selectors 0 1 3 2, alphas 0 F F F
@@ -212,7 +226,7 @@ bytes =
     (unit
     (0x00 ∷ 0x21 ∷ 0x00 ∷ 0x09 ∷ 0x00 ∷ 0x01 ∷ 0x60 ∷ 0x00 ∷ 0x30 ∷ 0x00 ∷ 0x00 ∷ 0x00 ∷ 0x09 ∷ 0x03 ∷ 0x01 ∷ 0x32 ∷ 0x04 ∷ 0x0F ∷ 0xFF ∷ 0x05 ∷ 0x00 ∷ 0x00 ∷ 0x01 ∷ 0x00 ∷ 0x00
     ∷ 0x01 ∷ 0x06 ∷ 0x00 ∷ 0x04 ∷ 0x00 ∷ 0x06 ∷ 0x01 ∷ 0xFF ∷ []))
-    (0 ∷ 2 ∷ 2 ∷ 0x0132 ∷ 0x0FFF ∷ 0 ∷ 0 ∷ 3 ∷ 1 ∷ 1 ∷ 2 ∷ 3 ∷ [])
+    (0 ∷ 2 ∷ 2 ∷ 0x0132 ∷ 0x0FFF ∷ 0 ∷ 0 ∷ 3 ∷ 0 ∷ 1 ∷ 1 ∷ 2 ∷ 3 ∷ [])
     -- a unit bare, for streams 0, 31 and 32; one kept by a packet, for the stream of its id and for another; a packet
     -- that keeps two bytes 0, and so an empty unit; no packet, and no file
     ∷ card (found 0 (0x00 ∷ 0x04 ∷ 0x00 ∷ 0x04 ∷ [])) (0 ∷ 0x00 ∷ 0x04 ∷ 0x00 ∷ 0x04 ∷ [])
@@ -227,8 +241,9 @@ bytes =
     ∷ card (held (0x00 ∷ 0x00 ∷ 0x01 ∷ 0xBD ∷ 0x00 ∷ 0x06 ∷ 0x80 ∷ 0x00 ∷ 0x00 ∷ 0x20 ∷ 0x00 ∷ 0x00 ∷ [])) (15 ∷ [])
     ∷ card (found 0 []) (12 ∷ [])
     -- each value of what was told in its field of the record
-    ∷ card (fieldsOf (spuOf (told blocks) (record { codes = 13 }))) (1 ∷ 2 ∷ 3 ∷ 4 ∷ 11 ∷ 12 ∷ 1 ∷ 7 ∷ 1 ∷ 9 ∷ 1 ∷ 5 ∷ 6 ∷ 1 ∷ 3 ∷ 13 ∷ [])
-    ∷ card (fieldsOf (spuOf (told []) nothing)) (replicate 16 0)
+    ∷ card (fieldsOf (spuOf (told blocks) (record { codes = 13; clipped = 8 })))
+    (1 ∷ 2 ∷ 3 ∷ 4 ∷ 11 ∷ 12 ∷ 1 ∷ 7 ∷ 1 ∷ 9 ∷ 1 ∷ 5 ∷ 6 ∷ 1 ∷ 3 ∷ 13 ∷ 8 ∷ [])
+    ∷ card (fieldsOf (spuOf (told []) nothing)) (replicate 17 0)
     -- positions `10` and `10000000000000000`; 2562047788 hours stand, 2562047789 do not; `-1` is an hour before 0 (FORMAT 1.7, 1.8)
     ∷ card (position (49 ∷ 48 ∷ [])) (0 ∷ 16 ∷ [])
     ∷ card (position (49 ∷ replicate 16 48)) (0 ∷ 10000000000000000 ∷ [])
@@ -260,7 +275,7 @@ small-title = card (title small-text small-file) (99 ∷ 117 ∷ 101 ∷ 115 ∷
 unfoldable pub small-painted : Card
 small-painted =
     card (cue small-text small-file (lent [] (replicate 4 9) [] (replicate 16 9)))
-    (0 ∷ 0 ∷ 1000000 ∷ 0 ∷ 0 ∷ 0 ∷ 0 ∷ 0 ∷ 2 ∷ 2 ∷ 3 ∷ 0 ∷ 0 ∷ 0 ∷ 255 ∷ 0 ∷ 0 ∷ 0 ∷ 255 ∷ 0 ∷ 0 ∷ 0 ∷ 255 ∷ 0 ∷ 0 ∷ 0 ∷ 255 ∷ [])
+    (0 ∷ 0 ∷ 1000000 ∷ 0 ∷ 0 ∷ 0 ∷ 0 ∷ 0 ∷ 2 ∷ 2 ∷ 3 ∷ 0 ∷ 0 ∷ 0 ∷ 0 ∷ 255 ∷ 0 ∷ 0 ∷ 0 ∷ 255 ∷ 0 ∷ 0 ∷ 0 ∷ 255 ∷ 0 ∷ 0 ∷ 0 ∷ 255 ∷ [])
 
 -- 2562047788 hours in a timestamp, and one hour more
 unfoldable pub hours-stand : Card

@@ -12,13 +12,16 @@ use Rattle.grammar.specs.Index.{Said, IsText}
 use Rattle.grammar.specs.IndexCues.{Cue}
 use Rattle.grammar.specs.Packets.{Packet, Form, IsForm, streamId}
 use Rattle.grammar.specs.Picture.{ListedUnit, IsUnit}
-use Rattle.grammar.specs.Reading.{Wanted}
+use Rattle.grammar.specs.Pixels.{clippedIn}
+use Rattle.grammar.specs.Record.{width}
+use Rattle.grammar.specs.Reading.{Wanted, Reading, IsReading, toldBy, shown}
 use Rattle.grammar.specs.Streams.{Walk, Alike}
 use Rattle.grammar.specs.Rows.{Code, FieldRows}
 use Rattle.grammar.proofs.Unique.{field-unique, bands-unique}
 use Rattle.grammar.proofs.UniqueControl.{unit-unique}
 use Rattle.grammar.proofs.UniqueIndex.{text-unique}
 use Rattle.grammar.proofs.UniquePackets.{form-unique}
+use Rattle.grammar.proofs.Clipped.{reading-most}
 use Rattle.grammar.proofs.Streams.{walk-same}
 use Rattle.rle_model.specs.declared.FieldAnswer.{FieldAnswer}
 use Rattle.rle_model.specs.Answers as field
@@ -50,7 +53,9 @@ use Rattle.demo_model.specs.Codes.{Mark, Proper, painted, runSize}
 use Rattle.demo_model.specs.Claim.{RoundTrips}
 use Rattle.demo_model.proofs.Marks.{shortest}
 use Rattle.demo_model.proofs.Claim as demo-proof
+use Rattle.vobsub_model.specs.declared.Shown.{Shown}
 use Rattle.vobsub_model.specs.declared.CanvasAnswer.{CanvasAnswer}
+use Rattle.vobsub_model.specs.declared.CanvasAnswer.the-variants as canvas-answer
 use Rattle.vobsub_model.specs.Call.{Lent}
 use Rattle.vobsub_model.specs.Answers.{CuePainted}
 use Rattle.vobsub_model.specs.Claim.{Exactly, Undisturbed}
@@ -61,10 +66,21 @@ use Rattle.listing_model.specs.Answers as listing
 use Rattle.listing_model.proofs.Claim as listing-proof
 
 -- Whole files (`decode_cue`): a canvas is given exactly where the files have a reading for the cue and the stream and
--- the buffers are long enough, no files have two readings for one cue and stream, and times, origin, size, number of
--- codes and every byte of the canvas are the reading's.
+-- the buffers are long enough, no files have two readings for one cue and stream, and times, origin, size, the numbers
+-- of codes and of clipped ones and every byte of the canvas are the reading's.
 pub whole-files : (text file : List ℕ) (q : Wanted) (b : Lent) (r : CanvasAnswer) (b′ : Lent) → CuePainted text file q b r b′ → Exactly text file q b r b′
 whole-files text file q b r b′ d = vobsub-proof.claim text file q b r b′ d
+
+-- Clipped codes (`decode_cue`): their number is how many of the codes that the reading lists name a run longer than
+-- what is left of their row; a reading has no more of them than lines.
+pub clipped-codes : (text file : List ℕ) (q : Wanted) (b : Lent) (r : CanvasAnswer) (b′ : Lent) → CuePainted text file q b r b′
+    → (s : Shown) → r ≡ canvas-answer.Paints s → (x : Reading) → IsReading text file q x
+    → s .counts .clipped ≡ clippedIn (width (toldBy x)) (x .unit .rows)
+clipped-codes text file q b r b′ d s p x h = vobsub-proof.clipped-codes text file q b r b′ d s p x h
+
+pub few-clipped : (text file : List ℕ) (q : Wanted) (x : Reading) → IsReading text file q x
+    → shown x .clipped ≤ shown x .height
+few-clipped = reading-most
 
 -- Other streams (`decode_cue`, `extract_spu`, `cue_line`): a file that differs in packets of other streams alone, among
 -- those walked from the cue's position, gives the same readings, the same answer and the same buffers. Every place has
@@ -130,7 +146,7 @@ pub one-text : (text : List ℕ) (a b : List Said) → IsText text a → IsText 
 one-text = text-unique
 
 -- The writer (`build_demo_spu`): for every picture that it accepts the grammar lists the unit with that width, height and map, and reading the
--- unit gives them back.
+-- unit gives them back, with no clipped code.
 pub a-picture : (w h : ℕ) (px out : List ℕ) (r : DemoAnswer) (out′ : List ℕ) → demo.Written w h px out r out′ → RoundTrips w h px r out′
 a-picture = demo-proof.claim
 

@@ -12,10 +12,12 @@ ghost use Rattle.grammar.specs.Rows.{code, paints};
 ghost use Rattle.rle_model.specs.Codes.{codeAt};
 ghost use Rattle.rle_model.specs.CodeAnswers.{codeAnswer};
 
-// The code at a place: the first number of nibbles that makes a number large enough for it, four at most (FORMAT 5.2).
-// Ruled out: a place past the end taken for a fill; a longer code where a shorter one stands.
-pub fn read_code(field: &[u8], c: Cursor) -> CodeAnswer
-    ensures { λ r. ⌜ r ≡ codeAnswer (codeAt (now (field .entry)) (length (now (field .entry))) (c .pos)) ⌝ }
+// The code at a place: the first number of nibbles that makes a number large enough for it, four at most (FORMAT 5.2);
+// and whether it is longer than the `left` pixels of its row (FORMAT 5.11).
+// Ruled out: a place past the end taken for a fill; a longer code where a shorter one stands; a code as long as what is
+// left, or a fill, taken for a clipped one.
+pub fn read_code(field: &[u8], c: Cursor, left: usize) -> CodeAnswer
+    ensures { λ r. ⌜ r ≡ codeAnswer left (codeAt (now (field .entry)) (length (now (field .entry))) (c .pos)) ⌝ }
 {
     let at = c.pos;
     let mut value: usize = 0;
@@ -35,16 +37,21 @@ pub fn read_code(field: &[u8], c: Cursor) -> CodeAnswer
         least *= 4;
         let end = at + size;
         if least <= value {
+            let run = value / 4;
+            let clipped = left < run;
             return CodeAnswer::Got {
                 size,
                 value,
+                clipped,
                 next: Cursor { pos: end },
             };
         }
+        // four nibbles too small for a run: a fill, which is never clipped
         if size == 4 {
             return CodeAnswer::Got {
                 size,
                 value,
+                clipped: false,
                 next: Cursor { pos: end },
             };
         }

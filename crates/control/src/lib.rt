@@ -282,7 +282,10 @@ fn read_chain(unit: &[u8], end: usize, from: usize) -> ControlAnswer
     requires { ⌜ (end ≤ length (now unit)) × (end < 65536) × (from < 65536) × (length (now unit) < 2 ^ 63) ⌝ }
     ensures { λ r. ⌜ r ≡ chainAnswer untold (blocksAt (now (unit .entry)) end (some from)) ⌝ }
 {
-    let counts = Counts { codes: 0 };
+    let counts = Counts {
+        codes: 0,
+        clipped: 0,
+    };
     let mut told = Spu {
         x1: 0,
         y1: 0,

@@ -11,7 +11,7 @@ use borrow.Author.Tests.{leb-true, eqb-true}
 use Rattle.outcome.specs.Outcome.{Res, ok, refuse, listed, bad-side, not-all-indices, bad-index, long-unit, short-output}
 use Rattle.outcome.proofs.Laws.{ok-injective, and-true, check-ok, andThen-ok}
 use Rattle.grammar.specs.Bands.{bandWords}
-use Rattle.grammar.specs.Pixels.{indexMap, codesIn}
+use Rattle.grammar.specs.Pixels.{indexMap, codesIn, clippedIn}
 use Rattle.grammar.specs.Record.{Told, told, width, height}
 use Rattle.grammar.specs.Picture.{ListedUnit, IsUnit}
 use Rattle.control_model.specs.Answers.{spuOf}
@@ -104,6 +104,7 @@ module _ (w h : ℕ) (px : List ℕ) (n : ℕ) (u : List ℕ) (e : demoAt w h px
         wide = omega arith;
         high = omega arith;
         codes = refl;
+        clipped = ap (λ (k : ℕ). clippedIn k (b .list .rows)) wide-is ∙ b .clipped;
         others = refl;
         pixels = d .pixels ∙ ap (λ (q : Res ListedUnit). sets map 0 (unitMap q)) g ∙ ap (sets map 0) (lists .picture);
         words = d .words ∙ ap (λ (q : Res ListedUnit). sets ws 0 (unitBands q)) g ∙ ap (λ (q : Told). sets ws 0 (bandWords (q .bands))) (b .tells);

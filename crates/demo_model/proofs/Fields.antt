@@ -10,7 +10,7 @@ use lib.Dec.{eqb}
 use borrow.Author.Tests.{eqb-true, eqb-false}
 use Rattle.outcome.proofs.Laws.{either}
 use Rattle.grammar.specs.Rows.{Code, afterCodes, align, FieldRows}
-use Rattle.grammar.specs.Pixels.{rowPixels, codesIn}
+use Rattle.grammar.specs.Pixels.{rowPixels, codesIn, clippedIn}
 use Rattle.demo_model.specs.Codes.{Mark, nibblesOf, evened, rowMarks, rowNibbles, fieldNibbles, marksIn}
 use Rattle.demo_model.specs.Unit.{Four}
 use Rattle.demo_model.proofs.Read.{Spells, spells-front, spells-rest, placed, Reads, marks-read}
@@ -50,6 +50,7 @@ module _ (last : ℕ → ℕ → List Mark) (closes : Closes last) where
     pub rows : FieldRows u e w p (placedRows p rs)
     pub pixels : paintedRows w (placedRows p rs) ≡ rs
     pub count : codesIn (placedRows p rs) ≡ marksIn last rs
+    pub clipped : clippedIn w (placedRows p rs) ≡ 0
     pub all : length (placedRows p rs) ≡ length rs
 
   pub even-length : (rs : List (List ℕ)) → length (fieldNibbles last rs) % 2 ≡ 0
@@ -62,8 +63,8 @@ module _ (last : ℕ → ℕ → List Mark) (closes : Closes last) where
       omega arith
 
   pub field-reads : (u : List ℕ) (e w p : ℕ) (rs : List (List ℕ)) → p % 2 ≡ 0 → Rows w rs → Spells u p (fieldNibbles last rs) → p + length (fieldNibbles last rs) ≤ 2 * e → FieldReads u e w p rs
-  unfolding Rows placedRows fieldNibbles FieldRows paintedRows codesIn marksIn align
-  field-reads u e w p [] v h s b = record { rows = tt; pixels = refl; count = refl; all = refl }
+  unfolding Rows placedRows fieldNibbles FieldRows paintedRows codesIn clippedIn marksIn align
+  field-reads u e w p [] v h s b = record { rows = tt; pixels = refl; count = refl; clipped = refl; all = refl }
   field-reads u e w p (r ∷ rs) v h s b =
       let n : List ℕ = nibblesOf (rowMarks last r) in
       let a = evened-length (nibblesOf (rowMarks last r)) in
@@ -79,5 +80,6 @@ module _ (last : ℕ → ℕ → List Mark) (closes : Closes last) where
         rows = (d .codes, rw x (q .rows));
         pixels = ap (λ (k : List ℕ). k ∷ paintedRows w (placedRows (p + length (rowNibbles last r)) rs)) (d .pixels) ∙ ap (λ (k : List (List ℕ)). r ∷ k) (q .pixels);
         count = omega (arith, d .count, q .count);
+        clipped = omega (arith, d .clipped, q .clipped);
         all = ap suc (q .all);
       }

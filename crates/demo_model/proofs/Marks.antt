@@ -1,16 +1,17 @@
--- The marks of a row paint its pixels, and no code of fewer nibbles paints a run. Assumes nothing.
+-- The marks of a row paint its pixels, none of them clipped, and no code of fewer nibbles paints a run.
+-- Assumes nothing.
 use Prim.Native.Nat.{ℕ, zero, suc, _+_, _-_, _*_, _/_, _%_, _^_, _≤_, _<_, min}
 use native.Mathlib.Omega.{arith}
 use mathlib.Core.Path.{_≡_, refl, sym, ap, _∙_, subst}
-use mathlib.Core.Bool.{Bool, true, false, cond}
+use mathlib.Core.Bool.{Bool, true, false, not, cond, _&&_}
 use mathlib.Core.Logic.{_⊎_, inl, inr, ⊎-elim}
 use mathlib.Core.List.{List, [], _∷_, _++_, append-assoc, append-nil}
 use lib.ListN.{length, replicate, length-append, length-replicate}
-use lib.Dec.{eqb}
+use lib.Dec.{eqb, ltb}
 use borrow.Author.Tests.{eq-eqb, ne-eqb, lt-ltb, le-ltb, eqb-true, eqb-false}
 use Rattle.outcome.proofs.Laws.{either, le-or-lt}
-use Rattle.grammar.specs.Rows.{fills, paints}
-use Rattle.demo_model.specs.Codes.{Run, grow, runs, Mark, Proper, painted, runSize, runMark, fillMark, cut, runMarks, lastMarks, marksOf, rowMarks}
+use Rattle.grammar.specs.Rows.{fills, paints, overshoots}
+use Rattle.demo_model.specs.Codes.{Run, grow, runs, Mark, placedCode, Proper, painted, runSize, runMark, fillMark, cut, runMarks, lastMarks, marksOf, rowMarks}
 use Rattle.demo_model.specs.Unit.{Four}
 use Rattle.demo_model.proofs.Read.{Draws}
 
@@ -72,6 +73,15 @@ module _ (n c : ℕ) (a : 1 ≤ n) (b : n ≤ 255) (k : c < 4) where
       decide : (j : ℕ) → (j ≡ 4) ⊎ (j ≡ 4 → ⊥)
       decide j = ⊎-elim (λ t. inl (eqb-true j 4 t)) (λ t. inr (eqb-false j 4 t)) (either (eqb j 4))
 
+  -- it is clipped nowhere that it fits
+  run-fits : (left : ℕ) → n ≤ left → overshoots left (placedCode 0 (runMark n c)) ≡ false
+  unfolding overshoots
+  run-fits left h = go (not (fills (placedCode 0 (runMark n c))))
+    where
+      go : (b : Bool) → (b && ltb left ((4 * n + c) / 4)) ≡ false
+      go true = le-ltb left ((4 * n + c) / 4) (omega arith)
+      go false = refl
+
 -- ---- Shortest
 
 size-most : (k n : ℕ) → 1 ≤ k → n < 4 ^ k → 1 ≤ n → n ≤ 255 → runSize n ≤ k
@@ -111,7 +121,7 @@ unfolding Draws
 one-draws left n c ms px a b k h d =
     let p : painted left (runMark n c) ≡ n = run-painted n c a b k left h in
     let w : (4 * n + c) % 4 ≡ c = omega arith in
-    (omega arith, run-proper n c a b k, (px, rw (p, w), rw p d))
+    (omega arith, run-proper n c a b k, run-fits n c a b k left h, (px, rw (p, w), rw p d))
 
 cut-draws : (q left n c : ℕ) (ms : List Mark) (px : List ℕ) → 255 * q < n → n ≤ 255 * q + 255 → c < 4 → n ≤ left → Draws (left - n) ms px → Draws left (cut q n c ++ ms) (replicate n c ++ px)
 unfolding cut
@@ -191,7 +201,7 @@ row-draws last closes row h = subst (λ (l : List ℕ). Draws (length l) (rowMar
 
 -- a fill paints what is left
 pub fill-closes : Closes lastMarks
-unfolding Draws paints
+unfolding Draws paints overshoots
 fill-closes =
     record {
       draws = λ n c a k.
@@ -201,6 +211,7 @@ fill-closes =
           let p : painted n (fillMark c) ≡ n = rw (lt-ltb c 256 l) in (
             omega arith,
             record { one = omega arith; four = omega arith; most = omega arith; least = λ y. absurd (omega arith); within = omega arith },
+            rw (lt-ltb c 256 l),
             ([], rw (p, w) (sym (append-nil (replicate n c))), (rw p z, refl)),
           );
     }

@@ -2,12 +2,13 @@
 use Prim.Native.Nat.{ℕ, zero, suc, _+_, _-_, _*_, _/_, _%_, _^_, _≤_, _<_}
 use native.Mathlib.Omega.{arith}
 use mathlib.Core.Path.{_≡_, refl, sym, ap, _∙_, subst}
+use mathlib.Core.Bool.{false}
 use mathlib.Core.List.{List, [], _∷_, _++_}
 use lib.ListN.{length, replicate, length-append, List·getD-append}
 use lib.Seq.{getD-append-add}
 use Rattle.grammar.specs.Bytes.{byte, nibble, nibbles}
-use Rattle.grammar.specs.Rows.{Code, paints, RowCodes, afterCodes}
-use Rattle.grammar.specs.Pixels.{rowPixels}
+use Rattle.grammar.specs.Rows.{Code, paints, overshoots, RowCodes, afterCodes}
+use Rattle.grammar.specs.Pixels.{rowPixels, clippedRow}
 use Rattle.demo_model.specs.Codes.{Mark, placedCode, Proper, painted, digits, nibblesOf}
 
 -- ---- What nibbles spell
@@ -51,11 +52,12 @@ unfoldable pub placed : ℕ → List Mark → List Code
 placed p [] = []
 placed p (m ∷ ms) = placedCode p m ∷ placed (p + m .size) ms
 
--- the marks paint the `left` pixels px to go
+-- the marks paint the `left` pixels px to go, and none is clipped
 unfoldable pub Draws : ℕ → List Mark → List ℕ → Type 0
 Draws left [] px = (left ≡ 0) × (px ≡ [])
 Draws left (m ∷ ms) px =
-    (0 < left) × Proper m × ((q : List ℕ) × (px ≡ replicate (painted left m) (m .value % 4) ++ q) × Draws (left - painted left m) ms q)
+    (0 < left) × Proper m × (overshoots left (placedCode 0 m) ≡ false)
+    × ((q : List ℕ) × (px ≡ replicate (painted left m) (m .value % 4) ++ q) × Draws (left - painted left m) ms q)
 
 -- what marks that are spelled read as
 pub record Reads (u : List ℕ) (e left p : ℕ) (ms : List Mark) (px : List ℕ) : Type 0 where
@@ -63,15 +65,20 @@ pub record Reads (u : List ℕ) (e left p : ℕ) (ms : List Mark) (px : List ℕ
   pub pixels : rowPixels left (placed p ms) ≡ px
   pub after : afterCodes p (placed p ms) ≡ p + length (nibblesOf ms)
   pub count : length (placed p ms) ≡ length ms
+  pub clipped : clippedRow left (placed p ms) ≡ 0
 
 paints-anywhere : (left p : ℕ) (m : Mark) → paints left (placedCode p m) ≡ painted left m
 unfolding paints
 paints-anywhere left p m = refl
 
+clips-anywhere : (left p : ℕ) (m : Mark) → overshoots left (placedCode p m) ≡ overshoots left (placedCode 0 m)
+unfolding overshoots
+clips-anywhere left p m = refl
+
 pub marks-read : (u : List ℕ) (e left p : ℕ) (ms : List Mark) (px : List ℕ) → Draws left ms px → Spells u p (nibblesOf ms) → p + length (nibblesOf ms) ≤ 2 * e → Reads u e left p ms px
-unfolding Draws placed RowCodes rowPixels afterCodes nibblesOf
+unfolding Draws placed RowCodes rowPixels clippedRow afterCodes nibblesOf
 marks-read u e left p [] px d s h =
-    record { codes = d .0; pixels = rw (d .0) (sym (d .1)); after = omega arith; count = refl }
+    record { codes = d .0; pixels = rw (d .0) (sym (d .1)); after = omega arith; count = refl; clipped = refl }
 marks-read u e left p (m ∷ ms) px d s h =
     let k = d .1 in
     let a = digits (m .size) (m .value) in
@@ -80,7 +87,7 @@ marks-read u e left p (m ∷ ms) px d s h =
     let t : Spells u (p + m .size) (nibblesOf ms) = subst (λ (x : ℕ). Spells u (p + x) (nibblesOf ms)) n (spells-rest u p (digits (m .size) (m .value)) (nibblesOf ms) s) in
     let v = digits-read u p (m .size) (m .value) (k .within) (spells-front u p (digits (m .size) (m .value)) (nibblesOf ms) s) in
     let w = paints-anywhere left p m in
-    let r = marks-read u e (left - painted left m) (p + m .size) ms (d .2 .0) (d .2 .2) t (omega arith) in
+    let r = marks-read u e (left - painted left m) (p + m .size) ms (d .3 .0) (d .3 .2) t (omega arith) in
     record {
       codes = (
         d .0,
@@ -88,7 +95,8 @@ marks-read u e left p (m ∷ ms) px d s h =
         record { one = k .one; four = k .four; inside = omega arith; number = sym v; most = k .most; least = k .least },
         rw w (r .codes),
       );
-      pixels = rw w (ap (λ (q : List ℕ). replicate (painted left m) (m .value % 4) ++ q) (r .pixels) ∙ sym (d .2 .1));
+      pixels = rw w (ap (λ (q : List ℕ). replicate (painted left m) (m .value % 4) ++ q) (r .pixels) ∙ sym (d .3 .1));
       after = r .after ∙ omega arith;
       count = ap suc (r .count);
+      clipped = rw (clips-anywhere left p m, d .2, w) (omega (arith, r .clipped));
     }

@@ -11,7 +11,7 @@ use borrow.Author.Tests.{lt-ltb, le-ltb}
 use Rattle.outcome.proofs.Laws.{le-or-lt}
 use Rattle.grammar.specs.Bytes.{byte, word, nibble, nibbles}
 use Rattle.grammar.specs.Rows.{Code}
-use Rattle.grammar.specs.Pixels.{rowPixels, codesIn, indexMap}
+use Rattle.grammar.specs.Pixels.{rowPixels, codesIn, clippedIn, indexMap}
 use Rattle.grammar.specs.Control.{Order, start, selectors, alphas, area, offsets, Command, IsCommand, Commands, Block, Chain, IsChain, controlWord}
 use Rattle.grammar.specs.Record.{told, width, commandsOf, commandsIn, firstDelay, lastDelay, lastNumbers, stands, allBands}
 use Rattle.grammar.specs.Picture.{evens, odds, topEnd, Stay0, Bottom, ListedUnit, IsUnit}
@@ -213,6 +213,14 @@ codes-weave (x ∷ []) [] h = omega arith
 codes-weave (x ∷ z ∷ a) [] h = absurd (let l = h .1 in omega arith)
 codes-weave (x ∷ a) (y ∷ b) h = let i = codes-weave a b (let l = h .0 in omega arith, let l = h .1 in omega arith) in omega arith
 
+clipped-weave : (w : ℕ) (a b : List (List Code)) → Paired a b → clippedIn w (weave a b) ≡ clippedIn w a + clippedIn w b
+unfolding weave clippedIn
+clipped-weave w [] [] h = omega arith
+clipped-weave w [] (y ∷ b) h = absurd (let l = h .0 in omega arith)
+clipped-weave w (x ∷ []) [] h = omega arith
+clipped-weave w (x ∷ z ∷ a) [] h = absurd (let l = h .1 in omega arith)
+clipped-weave w (x ∷ a) (y ∷ b) h = omega (arith, clipped-weave w a b (omega (arith, h .0), omega (arith, h .1)))
+
 module _ (last : ℕ → ℕ → List Mark) where
   marks-halves : (rs : List (List ℕ)) → marksIn last (evens rs) + marksIn last (odds rs) ≡ marksIn last rs
   unfolding evens marksIn
@@ -243,6 +251,7 @@ pub record Back (last : ℕ → ℕ → List Mark) (w h : ℕ) (px : List ℕ) :
   pub tells : told (list .blocks) ≡ writtenTold w h (4 + length (topNibbles last w h px) / 2)
   pub picture : indexMap w (list .rows) ≡ px
   pub codes : codesIn (list .rows) ≡ marksIn last (pictureRows w h px)
+  pub clipped : clippedIn w (list .rows) ≡ 0
 
 -- both fields have whole bytes
 module _ (last : ℕ → ℕ → List Mark) (closes : Closes last) (w h : ℕ) (px : List ℕ) where
@@ -376,4 +385,8 @@ module _ (last : ℕ → ℕ → List Mark) (closes : Closes last) (w h : ℕ) (
         codes =
             codes-weave (placedRows last closes 8 (evens rows)) (placedRows last closes (8 + length top) (odds rows)) paired
             ∙ omega (arith, upper second (omega arith) .count, lower .count, marks-halves last rows);
+        clipped =
+            clipped-weave w (placedRows last closes 8 (evens rows)) (placedRows last closes (8 + length top) (odds rows))
+            paired
+            ∙ omega (arith, upper second (omega arith) .clipped, lower .clipped);
       }

@@ -43,7 +43,8 @@ pub record Listed (w h : ℕ) (px u : List ℕ) (l : ListedUnit) : Type 0 where
   pub high : height (told (l .blocks)) ≡ h
   pub picture : indexMap (width (told (l .blocks))) (l .rows) ≡ px
 
--- what reading it into a map and words leaves: the size, the place 0 0, as many codes as are listed, every pixel, and no band
+-- what reading it into a map and words leaves: the size, the place 0 0, as many codes as are listed, none of them
+-- clipped, every pixel, and no band
 pub record ReadsBack (w h : ℕ) (px : List ℕ) (l : ListedUnit) (map ws : List ℕ) (r : SpuAnswer) (map′ ws′ : List ℕ) : Type 0 where
   pub says : Spu
   pub shows : r ≡ spu-answer.Shows says
@@ -52,6 +53,7 @@ pub record ReadsBack (w h : ℕ) (px : List ℕ) (l : ListedUnit) (map ws : List
   pub wide : says .x2 + 1 ≡ w
   pub high : says .y2 + 1 ≡ h
   pub codes : says .counts .codes ≡ codesIn (l .rows)
+  pub clipped : says .counts .clipped ≡ 0
   pub others : says ≡ spuOf (writtenTold w h (4 + length (topNibbles lastMarks w h px) / 2)) (countsOf l)
   pub pixels : map′ ≡ sets map 0 px
   pub words : ws′ ≡ ws

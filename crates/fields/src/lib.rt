@@ -9,12 +9,12 @@ use rle::plus_counts;
 use rle_model::Counts;
 use rle_model::FieldAnswer;
 ghost use mathlib.Core.Path.{_≡_};
-ghost use Prim.Native.Nat.{_+_, _*_, _<_, _≤_, _^_};
+ghost use Prim.Native.Nat.{ℕ, _+_, _*_, _<_, _≤_, _^_};
 ghost use lib.ListN.{length};
 ghost use lib.Seq.{slice};
 ghost use Rattle.outcome.specs.Outcome.{ok};
 ghost use Rattle.rle_model.specs.Field.{paintField};
-ghost use Rattle.rle_model.specs.Answers.{fieldAnswer, plusField, measured, partRows, Ready, Counted};
+ghost use Rattle.rle_model.specs.Answers.{AtMost, fieldAnswer, plusField, measured, partRows, Ready, Counted};
 ghost use Rattle.rle_model.specs.Fields.{fieldsAt, FieldsDecoded, bothAnswer, blankRows, BothFit, BothDecoded};
 
 // Bytes of a unit: from one place up to another.
@@ -34,7 +34,7 @@ fn field_bytes(unit: &[u8], from: usize, to: usize) -> &[u8]
 
 // The counts so far, and those of a field.
 fn measure_more(field: &[u8], width: usize, rows: usize, counts: Counts) -> FieldAnswer
-    requires { ⌜ counts .codes + rows * width < 2 ^ 64 ⌝ }
+    requires { ⌜ ((n : ℕ) × AtMost n counts × (n + rows * width < 2 ^ 64)) ⌝ }
     ensures { λ r. ⌜ r ≡ plusField counts (measured (now (field .entry)) width rows) ⌝ }
 {
     match measure_field(field, width, rows) {
@@ -239,7 +239,10 @@ pub fn decode_rle_fields(
     ensures { λ r. ⌜ FieldsDecoded (now (unit .entry)) (top .from) (top .to) (bottom .from) (bottom .to) shown width height (now (pixels .entry)) r (now (pixels .exit)) ⌝ }
 {
     if height == 0 {
-        return FieldAnswer::Rows(Counts { codes: 0 });
+        return FieldAnswer::Rows(Counts {
+            codes: 0,
+            clipped: 0,
+        });
     }
     let more = height / 2;
     let rows = more + height % 2;

@@ -1,15 +1,16 @@
--- Cards for what listed parts give. The readers share some of it with the grammar, and the claim so does not guard it: a code's run and
--- colour, the fill, the clip, alignment, pixels, the number of codes, words, the sizes of commands, what blocks tell, where the top field
--- ends. The rest: what bands are stored as, and what they give at a place. One test over the table. Assumes nothing.
-use Prim.Native.Nat.{ℕ}
+-- Cards for what listed parts give. The readers share some of it with the grammar, and the claim so does not guard it: a
+-- code's run and colour, the fill, the clip, alignment, pixels, the numbers of codes and of clipped ones, words, the
+-- sizes of commands, what blocks tell, where the top field ends. The rest: what bands are stored as, and what they give
+-- at a place. One test over the table, and three of clipped codes. Assumes nothing.
+use Prim.Native.Nat.{ℕ, _+_, _-_, _/_}
 use mathlib.Core.Path.{_≡_, refl}
 use mathlib.Core.List.{List, [], _∷_, map}
 use mathlib.Core.Bool.{cond}
 use mathlib.Core.Option.{Option, some, none}
-use lib.ListN.{drop}
+use lib.ListN.{take, drop, replicate}
 use Rattle.grammar.specs.Bytes.{nibble, nibbles, word}
-use Rattle.grammar.specs.Rows.{Code, code, colour, paints, afterCodes, align}
-use Rattle.grammar.specs.Pixels.{rowPixels, codesIn, indexMap}
+use Rattle.grammar.specs.Rows.{Code, code, colour, paints, overshoots, afterCodes, align}
+use Rattle.grammar.specs.Pixels.{rowPixels, codesIn, clippedRow, clippedIn, indexMap}
 use Rattle.grammar.specs.Control.{Order, forced-start, start, stop, selectors, alphas, area, offsets, colours, Command, commandEnd, Block}
 use Rattle.grammar.specs.Record.{Told, told, delayOf, width, height, commandsOf, commandsIn, firstDelay, lastDelay, lastNumbers, stands, allBands}
 use Rattle.grammar.specs.Picture.{evens, odds, topEnd}
@@ -145,3 +146,38 @@ cards =
 tabled : map (λ c. c .got) cards ≡ map (λ c. c .want) cards
 unfolding cards nibble nibbles paints afterCodes align rowPixels codesIn indexMap word entryWords bandWords rightmost lastLook lookAt topEnd evens joined unitOf told commandsOf commandsIn firstDelay lastDelay lastNumbers stands allBands
 tabled = refl
+
+-- ---- Clipped codes (FORMAT 5.11)
+
+-- 1 where the code c is clipped with so many pixels of its row left, and 0 where it is not
+abbrev clips : Code → List ℕ → List ℕ
+clips c [] = []
+clips c (left ∷ ls) = cond (overshoots left c) 1 0 ∷ clips c ls
+
+-- with one pixel less than n, with n and with one more
+abbrev around : ℕ → List ℕ
+around n = (n - 1) ∷ n ∷ (n + 1) ∷ []
+
+-- the least and the greatest run of each length: clipped by one pixel, and neither as long as what is left nor shorter
+pub one-pixel-over :
+    map (λ (c : Code). clips c (around (c .value / 4)))
+    (code 0 1 4 ∷ code 0 1 15 ∷ code 0 2 16 ∷ code 0 2 63 ∷ code 0 3 64 ∷ code 0 3 255 ∷ code 0 4 256 ∷ code 0 4 1023
+    ∷ [])
+    ≡ replicate 8 (1 ∷ 0 ∷ 0 ∷ [])
+unfolding overshoots
+one-pixel-over = refl
+
+-- the fill `00F7`, whose number by four is 61; three nibbles of that number are a run of 61
+pub fill-not-clipped :
+    (clips (code 0 4 0xF7) (0 ∷ 1 ∷ 2 ∷ 60 ∷ 61 ∷ []) ≡ 0 ∷ 0 ∷ 0 ∷ 0 ∷ 0 ∷ [])
+    × (clips (code 0 3 0xF7) (around 61) ≡ 1 ∷ 0 ∷ 0 ∷ [])
+unfolding overshoots
+fill-not-clipped = (refl, refl)
+
+-- runs of 1, 4 and 2: in rows of 6 one code of three is clipped, in rows of 7 none, in rows of 3 the second; rows with
+-- no code have none
+pub one-of-three :
+    clippedIn 6 (row ∷ [] ∷ []) ∷ clippedIn 7 (row ∷ [] ∷ []) ∷ clippedIn 3 (take 2 row ∷ take 2 row ∷ []) ∷ []
+    ≡ 1 ∷ 0 ∷ 2 ∷ []
+unfolding clippedIn clippedRow overshoots paints
+one-of-three = refl

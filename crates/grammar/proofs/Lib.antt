@@ -12,5 +12,6 @@ pub mod ReadingLine
 pub mod Readings
 pub mod Edges
 pub mod Lengths
+pub mod Clipped
 pub mod IndexCards
 pub mod PaintCards

@@ -12,8 +12,8 @@ use Rattle.grammar.specs.Bands.{Band, entryWords, bandWords}
 use Rattle.grammar.specs.Look.{Look, rightmost, lastLook, lookAt}
 use Rattle.grammar.specs.Control.{Order, start, stop, selectors, alphas, area, colours, Command, Block}
 use Rattle.grammar.specs.Record.{told, commandsOf, commandsIn, firstDelay, lastDelay, lastNumbers, stands, allBands}
-use Rattle.grammar.specs.Rows.{code, paints}
-use Rattle.grammar.specs.Pixels.{rowPixels, codesIn, indexMap}
+use Rattle.grammar.specs.Rows.{code, paints, overshoots}
+use Rattle.grammar.specs.Pixels.{rowPixels, codesIn, clippedRow, clippedIn, indexMap}
 use Rattle.grammar.specs.Packets.{Packet, bare, packets, joined, unitOf, scratchFor}
 use Rattle.grammar.specs.IndexNumbers.{Valued}
 use Rattle.grammar.specs.Index.{Said, palette, timestamp, startOf}
@@ -87,7 +87,7 @@ lasting none = 0
 lasting (some d) = d
 
 abbrev listing : Shown → List ℕ
-listing s = number (s .start) ++ lasting (s .duration) ∷ s .start-delay ∷ s .stop-delay ∷ s .x1 ∷ s .y1 ∷ s .width ∷ s .height ∷ s .codes ∷ []
+listing s = number (s .start) ++ lasting (s .duration) ∷ s .start-delay ∷ s .stop-delay ∷ s .x1 ∷ s .y1 ∷ s .width ∷ s .height ∷ s .codes ∷ s .clipped ∷ []
 
 -- selectors and alphas at a place of the display
 abbrev at : ℕ → ℕ → List ℕ
@@ -120,8 +120,8 @@ cards =
     -- a line goes to the right, and lines go down, from an origin that is not 0 0
     ∷ card (lineBytes entries tells 1 2 (0 ∷ 0 ∷ [])) (20 ∷ 21 ∷ 22 ∷ 34 ∷ 30 ∷ 31 ∷ 32 ∷ 34 ∷ [])
     ∷ card (canvasBytes entries tells 1 2 ((0 ∷ 0 ∷ []) ∷ (0 ∷ 0 ∷ []) ∷ [])) (20 ∷ 21 ∷ 22 ∷ 34 ∷ 30 ∷ 31 ∷ 32 ∷ 34 ∷ 20 ∷ 21 ∷ 22 ∷ 51 ∷ 30 ∷ 31 ∷ 32 ∷ 51 ∷ [])
-    -- what the reading gives
-    ∷ card (listing (shown reading)) (1 ∷ 3000000 ∷ 4000000 ∷ 11 ∷ 13 ∷ 7 ∷ 5 ∷ 3 ∷ 2 ∷ 4 ∷ [])
+    -- what the reading gives: of its four codes one is clipped
+    ∷ card (listing (shown reading)) (1 ∷ 3000000 ∷ 4000000 ∷ 11 ∷ 13 ∷ 7 ∷ 5 ∷ 3 ∷ 2 ∷ 4 ∷ 1 ∷ [])
     ∷ card (mapOf reading) (3 ∷ 2 ∷ 1 ∷ 1 ∷ 1 ∷ 1 ∷ [])
     ∷ card (wordsOf reading) (5 ∷ 5 ∷ 1 ∷ 8 ∷ 0x3012 ∷ 0x1230 ∷ 5 ∷ 9 ∷ 1 ∷ 9 ∷ 0x2222 ∷ 0x0700 ∷ [])
     ∷ card (canvasOf reading)
@@ -131,5 +131,5 @@ cards =
     ∷ []
 
 tabled : map (λ c. c .got) cards ≡ map (λ c. c .want) cards
-unfolding cards word entryWords bandWords rightmost lastLook lookAt paints rowPixels codesIn indexMap joined unitOf startOf cuesOf coloursOf paletteFrom cueAt durationOf coloured pixel lineBytes canvasBytes shown mapOf wordsOf unitCanvas canvasOf told commandsOf commandsIn firstDelay lastDelay lastNumbers stands allBands
+unfolding cards word entryWords bandWords rightmost lastLook lookAt paints overshoots rowPixels codesIn clippedRow clippedIn indexMap joined unitOf startOf cuesOf coloursOf paletteFrom cueAt durationOf coloured pixel lineBytes canvasBytes shown mapOf wordsOf unitCanvas canvasOf told commandsOf commandsIn firstDelay lastDelay lastNumbers stands allBands
 tabled = refl

@@ -18,8 +18,8 @@ use Rattle.grammar.specs.Bands.{Band, Bands, Entries, entryWords, bandWo
 use Rattle.grammar.specs.Control.{Order, start, selectors, alphas, area, offsets, colours, Command, Commands, Chain, IsChain}
 use Rattle.grammar.specs.Record.{told, commandsOf, commandsIn, firstDelay, lastDelay, lastNumbers, stands, allBands}
 use Rattle.grammar.specs.Look.{rightmost, lastLook, lookAt}
-use Rattle.grammar.specs.Rows.{code, paints, RowCodes, afterCodes, align, FieldRows}
-use Rattle.grammar.specs.Pixels.{rowPixels, codesIn, indexMap}
+use Rattle.grammar.specs.Rows.{code, paints, overshoots, RowCodes, afterCodes, align, FieldRows}
+use Rattle.grammar.specs.Pixels.{rowPixels, codesIn, clippedRow, clippedIn, indexMap}
 use Rattle.grammar.specs.Picture.{evens, topEnd, Stay0, IsPicture, ListedUnit}
 use Rattle.grammar.specs.Packets.{Packet, streamId, joined, Packets, bare, packets, unitOf, IsForm}
 use Rattle.grammar.specs.Canvas.{coloured, pixel, lineBytes, canvasBytes}
@@ -142,9 +142,10 @@ small-passes s h =
 small-32 : (x : Reading) → IsReading line small-file (wanted 0 32) x → ⊥
 small-32 x h = omega (arith, h .stream-is)
 
--- start 1000000, no duration, origin 0 0, 2 by 2, three codes, map 1 1 2 3, no words, and a canvas of black that is not transparent
-pub small-shown : shown small ≡ record { start = pos 1000000; duration = none; start-delay = 0; stop-delay = 0; x1 = 0; y1 = 0; width = 2; height = 2; codes = 3 }
-unfolding shown cuesOf cueAt durationOf startOf codesIn told commandsOf commandsIn firstDelay lastDelay lastNumbers stands allBands
+-- start 1000000, no duration, origin 0 0, 2 by 2, three codes and none clipped, map 1 1 2 3, no words, and a canvas of
+-- black that is not transparent
+pub small-shown : shown small ≡ record { start = pos 1000000; duration = none; start-delay = 0; stop-delay = 0; x1 = 0; y1 = 0; width = 2; height = 2; codes = 3; clipped = 0 }
+unfolding shown cuesOf cueAt durationOf startOf codesIn clippedRow clippedIn overshoots paints told commandsOf commandsIn firstDelay lastDelay lastNumbers stands allBands
 small-shown = refl
 
 small-map : mapOf small ≡ 1 ∷ 1 ∷ 2 ∷ 3 ∷ []
@@ -391,8 +392,8 @@ packed-passes =
     }
 
 -- the first pixel has the unit's own colours, the second, at column 5, the band's
-packed-shown : shown packed ≡ record { start = pos 1000000; duration = none; start-delay = 3; stop-delay = 0; x1 = 4; y1 = 2; width = 2; height = 1; codes = 2 }
-unfolding shown cuesOf cueAt durationOf startOf codesIn told commandsOf commandsIn firstDelay lastDelay lastNumbers stands allBands
+packed-shown : shown packed ≡ record { start = pos 1000000; duration = none; start-delay = 3; stop-delay = 0; x1 = 4; y1 = 2; width = 2; height = 1; codes = 2; clipped = 0 }
+unfolding shown cuesOf cueAt durationOf startOf codesIn clippedRow clippedIn overshoots paints told commandsOf commandsIn firstDelay lastDelay lastNumbers stands allBands
 packed-shown = refl
 
 packed-map : mapOf packed ≡ 1 ∷ 2 ∷ []

@@ -13,7 +13,7 @@ use Rattle.grammar.specs.Packets.{Form, IsForm, unitOf, scratchFor, stre
 use Rattle.grammar.specs.Bands.{bandWords}
 use Rattle.grammar.specs.Record.{Told, told, delayOf, width, height}
 use Rattle.grammar.specs.Picture.{ListedUnit, IsUnit}
-use Rattle.grammar.specs.Pixels.{rowPixels, indexMap, codesIn}
+use Rattle.grammar.specs.Pixels.{rowPixels, indexMap, codesIn, clippedIn}
 use Rattle.grammar.specs.Canvas.{toldLook, canvasBytes}
 
 -- what a caller asks for: the number of a cue, and that of a subpicture stream
@@ -52,7 +52,7 @@ pub record IsReading (text file : List ℕ) (q : Wanted) (r : Reading) : Type 0 
 abbrev pub toldBy : Reading → Told
 toldBy r = told (r .unit .blocks)
 
--- times, origin, size and number of codes
+-- times, origin, size, number of codes and number of clipped ones
 pub record Shown : Type 0 where
   pub start : ℤ
   pub duration : Option ℕ
@@ -63,6 +63,7 @@ pub record Shown : Type 0 where
   pub width : ℕ
   pub height : ℕ
   pub codes : ℕ
+  pub clipped : ℕ
 
 abbrev pub startAt : Option Cue → ℤ
 startAt none = pos 0
@@ -80,6 +81,7 @@ shown r =
       width = width (toldBy r);
       height = height (toldBy r);
       codes = codesIn (r .unit .rows);
+      clipped = clippedIn (width (toldBy r)) (r .unit .rows);
     }
 
 -- the index map, the words of all bands, and the canvas

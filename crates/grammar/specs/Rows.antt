@@ -2,7 +2,7 @@
 -- They find no code: whether a list passes is all that they say. Assumes nothing: these are definitions.
 use Prim.Native.Nat.{ℕ, _+_, _-_, _*_, _/_, _%_, _^_, _≤_, _<_, min}
 use mathlib.Core.Path.{_≡_}
-use mathlib.Core.Bool.{Bool, cond, _&&_}
+use mathlib.Core.Bool.{Bool, not, cond, _&&_}
 use mathlib.Core.List.{List, [], _∷_}
 use lib.Dec.{eqb, ltb}
 use Rattle.grammar.specs.Bytes.{nibbles}
@@ -39,6 +39,10 @@ fills c = eqb (c .size) 4 && ltb (c .value) 256
 -- how many of the `left` pixels of its row a code paints (FORMAT 5.3, 5.4): no run goes past the row's end
 unfoldable pub paints : ℕ → Code → ℕ
 paints left c = cond (fills c) left (min left (run c))
+
+-- FORMAT 5.11: the run that a code names is longer than the `left` pixels of its row; a fill names none
+unfoldable pub overshoots : ℕ → Code → Bool
+overshoots left c = not (fills c) && ltb left (run c)
 
 -- the codes from half byte p on, with `left` pixels to go: each follows the one before, and they reach the width first at the last (FORMAT 5.5)
 unfoldable pub RowCodes : List ℕ → ℕ → ℕ → ℕ → List Code → Type 0

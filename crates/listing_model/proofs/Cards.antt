@@ -38,8 +38,8 @@ delays-recorded = (refl, refl)
 
 -- `1 -2 3 4 5 6 7 8 9 10`: the fields of a line in their order; and one of a cue without a duration
 pub cue-line :
-    (shownLine 1 (record { start = negsuc 1; duration = some 3; start-delay = 8; stop-delay = 9; x1 = 4; y1 = 5; width = 6; height = 7; codes = 10 }) ≡ 49 ∷ 32 ∷ 45 ∷ 50 ∷ 32 ∷ 51 ∷ 32 ∷ 52 ∷ 32 ∷ 53 ∷ 32 ∷ 54 ∷ 32 ∷ 55 ∷ 32 ∷ 56 ∷ 32 ∷ 57 ∷ 32 ∷ 49 ∷ 48 ∷ 10 ∷ [])
-    × (shownLine 0 (record { start = pos 12; duration = none; start-delay = 0; stop-delay = 0; x1 = 0; y1 = 0; width = 1; height = 1; codes = 1 }) ≡ 48 ∷ 32 ∷ 49 ∷ 50 ∷ 32 ∷ 45 ∷ 32 ∷ 48 ∷ 32 ∷ 48 ∷ 32 ∷ 49 ∷ 32 ∷ 49 ∷ 32 ∷ 48 ∷ 32 ∷ 48 ∷ 32 ∷ 49 ∷ 10 ∷ [])
+    (shownLine 1 (record { start = negsuc 1; duration = some 3; start-delay = 8; stop-delay = 9; x1 = 4; y1 = 5; width = 6; height = 7; codes = 10; clipped = 0 }) ≡ 49 ∷ 32 ∷ 45 ∷ 50 ∷ 32 ∷ 51 ∷ 32 ∷ 52 ∷ 32 ∷ 53 ∷ 32 ∷ 54 ∷ 32 ∷ 55 ∷ 32 ∷ 56 ∷ 32 ∷ 57 ∷ 32 ∷ 49 ∷ 48 ∷ 10 ∷ [])
+    × (shownLine 0 (record { start = pos 12; duration = none; start-delay = 0; stop-delay = 0; x1 = 0; y1 = 0; width = 1; height = 1; codes = 1; clipped = 0 }) ≡ 48 ∷ 32 ∷ 49 ∷ 50 ∷ 32 ∷ 45 ∷ 32 ∷ 48 ∷ 32 ∷ 48 ∷ 32 ∷ 49 ∷ 32 ∷ 49 ∷ 32 ∷ 48 ∷ 32 ∷ 48 ∷ 32 ∷ 49 ∷ 10 ∷ [])
 unfolding shownLine decimal digitsIn
 cue-line = (refl, refl)
 

@@ -14,7 +14,7 @@ use Rattle.grammar.specs.IndexCues.{Cue, cuesOf, cueAt, durationOf}
 use Rattle.grammar.specs.Packets.{Form, unitOf, streamId}
 use Rattle.grammar.proofs.Streams.{readings-same}
 use Rattle.grammar.specs.Record.{told, delayOf, width, height}
-use Rattle.grammar.specs.Pixels.{codesIn}
+use Rattle.grammar.specs.Pixels.{codesIn, clippedIn}
 use Rattle.grammar.specs.Reading.{wanted, Reading, IsReading, Shown, startAt, shown}
 use Rattle.idx_model.proofs.Grammar.{text-unique}
 use Rattle.ps_model.specs.Packets.{formAt}
@@ -53,6 +53,7 @@ module _ (cs : List Cue) (f : List ℕ) (n : ℕ) where
           width = width t;
           height = height t;
           codes = codesIn (x .unit .rows);
+          clipped = clippedIn (width t) (x .unit .rows);
         }
 
     pub reading-shown : shownFor cs f n ≡ ok (shown x)

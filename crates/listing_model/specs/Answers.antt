@@ -53,6 +53,7 @@ recordShown start duration s =
       width = s .x2 + 1 - s .x1;
       height = s .y2 + 1 - s .y1;
       codes = s .counts .codes;
+      clipped = s .counts .clipped;
     }
 
 -- the line of cue n with these times and the unit u

@@ -12,7 +12,7 @@ use Rattle.grammar.specs.IndexCues.{Cue, cuesOf, cueAt, durationOf}
 use Rattle.grammar.specs.Packets.{Form, unitOf, streamId}
 use Rattle.grammar.specs.Record.{told, delayOf, width, height}
 use Rattle.grammar.specs.Picture.{ListedUnit}
-use Rattle.grammar.specs.Pixels.{codesIn}
+use Rattle.grammar.specs.Pixels.{codesIn, clippedIn}
 use Rattle.grammar.specs.Reading.{Shown}
 use Rattle.idx_model.specs.Text.{textOf}
 use Rattle.ps_model.specs.Packets.{formAt}
@@ -38,6 +38,7 @@ shownAt start duration l =
       width = width (told (l .blocks));
       height = height (told (l .blocks));
       codes = codesIn (l .rows);
+      clipped = clippedIn (width (told (l .blocks))) (l .rows);
     }
 
 -- the unit at a cue's position: 12, 13, then 15 to 21, 25 and 26

@@ -2,9 +2,10 @@
 // each: the function, the row's name, and its answer.
 // A line of standard input is a row: the function, its name, its numbers and its bytes, with a bar between them. The
 // numbers:
-// read_code, read_through, align_through: a place. chg_colcon_lookup: column, line; the bands are those of the bytes,
-// or the words that stand behind another bar. measure_spu: none. extract_spu: position, stream, scratch; the bytes are
-// the head of a file of 65,555 bytes, each i % 251, and those behind another bar stand at 32,774. build_demo_spu:
+// read_code: a place, the pixels left. read_through, align_through: a place. chg_colcon_lookup: column, line; the bands
+// are those of the bytes, or the words that stand behind another bar. measure_spu: none. extract_spu: position, stream,
+// scratch; the bytes are the head of a file of 65,555 bytes, each i % 251, and those behind another bar stand at 32,774.
+// build_demo_spu:
 // width, height, output, and for a picture that code builds its size, n, p and k: bytes 1 and 2 in turn, n at a time,
 // but from 126,976 on p of them in pairs; or, where k is not 0, each of the first k pictures, whose bytes are the
 // digits of its number to base 4.
@@ -61,7 +62,7 @@ fn of_byte(b: u8) -> usize {
 
 // Writes a form: for bytes 40 to 4F (`@`, `A` to `O`) number 0 to 15 in decimal, for 50 to 5F the same in hexadecimal,
 // and others as they are.
-fn form(s: &[u8], numbers: &[usize; 16]) {
+fn form(s: &[u8], numbers: &[usize; 17]) {
     let mut i = 0;
     while i < s.len() {
         let c = s[i];
@@ -71,11 +72,11 @@ fn form(s: &[u8], numbers: &[usize; 16]) {
 }
 
 fn said(s: &[u8], n: usize) {
-    form(s, &[n; 16]);
+    form(s, &[n; 17]);
 }
 
 fn pair(s: &[u8], a: usize, b: usize) {
-    let mut numbers = [a; 16];
+    let mut numbers = [a; 17];
     numbers[1] = b;
     form(s, &numbers);
 }
@@ -84,11 +85,16 @@ fn refused(n: u8) {
     said(b": refused @", n as usize);
 }
 
-fn code(field: &[u8], pos: usize) {
-    match codes::read_code(field, Cursor { pos }) {
-        CodeAnswer::Got { size, value, next } => {
+fn code(field: &[u8], pos: usize, left: usize) {
+    match codes::read_code(field, Cursor { pos }, left) {
+        CodeAnswer::Got {
+            size,
+            value,
+            clipped,
+            next,
+        } => {
             pair(b": nibbles @ value A", size, value);
-            said(b" next @", next.pos);
+            pair(b" clipped @ next A", clipped as usize, next.pos);
         }
         CodeAnswer::Refused(n) => {
             refused(n);
@@ -110,10 +116,12 @@ fn nibble(field: &[u8], pos: usize) {
 fn measured(unit: &[u8]) {
     match spu::measure_spu(unit) {
         SpuAnswer::Shows(s) => {
+            let numbers = vobsub_numbers::numbers_of(s);
             form(
                 b": area @ A B C, selectors T, alphas U, start F G, stop H I, forced J, offsets K L, change M, band words N, codes O",
-                &vobsub_numbers::numbers_of(s),
+                &numbers,
             );
+            said(b", clipped @", numbers[16]);
         }
         SpuAnswer::Refused(n) => {
             refused(n);
@@ -299,7 +307,8 @@ fn is_sized(s: Spu, width: usize, height: usize) -> bool {
     s.y2 as usize + 1 == height
 }
 
-// The number of codes that a unit is read back with, 0 where it is not read back as it was written.
+// The number of codes that a unit is read back with, 0 where it is not read back as it was written or has a clipped
+// code.
 fn back(unit: &[u8], width: usize, height: usize, indices: &[u8], map: &mut [u8]) -> usize {
     let mut words = [0; 1];
     match spu::parse_and_decode_spu(unit, map, &mut words) {
@@ -307,7 +316,9 @@ fn back(unit: &[u8], width: usize, height: usize, indices: &[u8], map: &mut [u8]
             if is_sized(s, width, height) {
                 if same(indices, map) {
                     let counts = s.counts;
-                    return counts.codes;
+                    if counts.clipped == 0 {
+                        return counts.codes;
+                    }
                 }
             }
             0
@@ -443,7 +454,7 @@ fn asked(line: &[u8], bytes: &[u8]) {
     let a = table::given(line, 0);
     let b = table::given(line, 1);
     if starts(line, b"read_code|") {
-        code(bytes, a);
+        code(bytes, a, b);
     }
     if starts(line, b"read_through|") {
         nibble(bytes, a);

@@ -43,10 +43,10 @@ fn mixed_words(sum: u64, s: &[u16]) -> u64 {
     t
 }
 
-fn mixed_numbers(sum: u64, s: &[usize; 16]) -> u64 {
+fn mixed_numbers(sum: u64, s: &[usize; 17]) -> u64 {
     let mut t = sum;
     let mut i = 0;
-    while i < 16 {
+    while i < 17 {
         t = mixed(t, s[i] as u64);
         i += 1;
     }
@@ -139,12 +139,22 @@ fn field(
     e: Expected,
 ) -> bool {
     let mut codes: usize = NUMBER;
-    let r = vobsub_c::vobsub_decode_rle_field(bytes, width, height, start, map, &mut codes);
-    as_expected(e, r, mixed_bytes(mixed(1, codes as u64), map))
+    let mut clipped: usize = NUMBER;
+    let r = vobsub_c::vobsub_decode_rle_field(
+        bytes,
+        width,
+        height,
+        start,
+        map,
+        &mut codes,
+        &mut clipped,
+    );
+    let s = mixed(mixed(1, codes as u64), clipped as u64);
+    as_expected(e, r, mixed_bytes(s, map))
 }
 
 fn unit(bytes: &[u8], map: &mut [u8], words: &mut [u16], e: Expected) -> bool {
-    let mut numbers: [usize; 16] = [NUMBER; 16];
+    let mut numbers: [usize; 17] = [NUMBER; 17];
     let r = vobsub_c::vobsub_parse_and_decode_spu(bytes, map, words, &mut numbers);
     let s = mixed_numbers(1, &numbers);
     as_expected(e, r, mixed_words(mixed_bytes(s, map), words))
@@ -177,10 +187,10 @@ fn cue(bytes: &[u8], n: usize, e: Expected) -> bool {
 }
 
 // The numbers of a painted cue.
-fn mixed_shown(sum: u64, s: &[u64; 9]) -> u64 {
+fn mixed_shown(sum: u64, s: &[u64; 10]) -> u64 {
     let mut t = sum;
     let mut i = 0;
-    while i < 9 {
+    while i < 10 {
         t = mixed(t, s[i]);
         i += 1;
     }
@@ -199,7 +209,7 @@ fn canvas(
     e: Expected,
 ) -> bool {
     let mut start: i64 = START;
-    let mut numbers: [u64; 9] = [NUMBER as u64; 9];
+    let mut numbers: [u64; 10] = [NUMBER as u64; 10];
     let r = vobsub_c::vobsub_decode_cue(
         text,
         file,

@@ -18,7 +18,7 @@ ghost use Rattle.rle_model.specs.Claim.{Says};
 ghost use Rattle.rle_model.specs.Codes.{rowAt, fieldAt};
 ghost use Rattle.rle_model.specs.Field.{paintField};
 ghost use Rattle.rle_model.specs.Kept.{keptRun, leftAfter, placeAfter, paintKept, KeptFits};
-ghost use Rattle.rle_model.specs.Answers.{plus, AtMost, measured, partRows, Ready};
+ghost use Rattle.rle_model.specs.Answers.{plus, lastCounts, AtMost, measured, partRows, Ready};
 ghost use Rattle.rle_model.specs.Answers.{RowMeasured, FieldMeasured, RowFilled, RowsDecoded, Decoded};
 
 // A row below this width has no run that a kept number could not hold.
@@ -31,6 +31,18 @@ pub fn plus_counts(a: Counts, b: Counts) -> Counts
 {
     Counts {
         codes: a.codes + b.codes,
+        clipped: a.clipped + b.clipped,
+    }
+}
+
+// What a row of so many codes counts, by whether the last one is clipped.
+fn row_counts(codes: usize, clipped: bool) -> Counts
+    ensures { λ r. ⌜ r ≡ lastCounts codes clipped ⌝ }
+{
+    let more = clipped as usize;
+    Counts {
+        codes,
+        clipped: more,
     }
 }
 
@@ -50,14 +62,22 @@ fn measure_row(field: &[u8], c: Cursor, width: usize, kept: &mut [u16], from: us
 {
     let mut pos = c.pos;
     let mut left = width;
-    let mut counts = Counts { codes: 0 };
+    let mut codes: usize = 0;
+    // a clipped code ends its row, so only the last one can be clipped
+    let mut clipped = false;
     while 0 < left {
-        match read_code(field, Cursor { pos }) {
-            CodeAnswer::Got { size, value, next } => {
-                let at = from + counts.codes;
+        match read_code(field, Cursor { pos }, left) {
+            CodeAnswer::Got {
+                size,
+                value,
+                clipped: over,
+                next,
+            } => {
+                let at = from + codes;
                 let n = painted(left, size, value);
                 keep(kept, at, n, value);
-                counts = plus_counts(counts, Counts { codes: 1 });
+                codes += 1;
+                clipped = over;
                 left -= n;
                 pos = next.pos;
             }
@@ -66,6 +86,7 @@ fn measure_row(field: &[u8], c: Cursor, width: usize, kept: &mut [u16], from: us
             }
         }
     }
+    let counts = row_counts(codes, clipped);
     RowAnswer::Row {
         counts,
         next: Cursor { pos },
@@ -95,7 +116,13 @@ fn fill_row(field: &[u8], c: Cursor, width: usize, start: usize, pixels: &mut [u
     let mut left = width;
     let mut to = start;
     while 0 < left {
-        let CodeAnswer::Got { size, value, next } = read_code(field, Cursor { pos }) else {
+        let CodeAnswer::Got {
+            size,
+            value,
+            clipped: _,
+            next,
+        } = read_code(field, Cursor { pos }, left)
+        else {
             return Cursor { pos };
         };
         let n = painted(left, size, value);
@@ -113,7 +140,10 @@ fn fill_row(field: &[u8], c: Cursor, width: usize, start: usize, pixels: &mut [u
 pub fn measure_kept(field: &[u8], width: usize, rows: usize, kept: &mut [u16]) -> FieldAnswer
     ensures { λ r. ⌜ FieldMeasured (now (field .entry)) width rows (now (kept .entry)) r (now (kept .exit)) ⌝ }
 {
-    let mut counts = Counts { codes: 0 };
+    let mut counts = Counts {
+        codes: 0,
+        clipped: 0,
+    };
     // rows of no pixels have no codes
     if width == 0 {
         return FieldAnswer::Rows(counts);
@@ -332,7 +362,10 @@ fn decode_rows(
     ensures { λ r. ⌜ Decoded (now (field .entry)) width height «start_row» (now (pixels .entry)) r (now (pixels .exit)) ⌝ }
 {
     if height <= start_row {
-        return FieldAnswer::Rows(Counts { codes: 0 });
+        return FieldAnswer::Rows(Counts {
+            codes: 0,
+            clipped: 0,
+        });
     }
     let span = height - start_row;
     let rows = span / 2 + span % 2;

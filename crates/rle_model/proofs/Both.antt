@@ -3,7 +3,7 @@
 use Prim.Native.Nat.{ℕ, zero, suc, _+_, _-_, _*_, _/_, _%_, _^_, _≤_, _<_}
 use native.Mathlib.Nat.{suc-mul, add-mul, mul-comm, mul-assoc, mul-left-comm, mul-le-mul-right}
 use native.Mathlib.Omega.{arith}
-use mathlib.Core.Path.{_≡_, refl, sym, ap, _∙_}
+use mathlib.Core.Path.{_≡_, refl, sym, ap, _∙_, subst}
 use mathlib.Core.Bool.{Bool, true, false, cond}
 use mathlib.Core.List.{List, [], _∷_}
 use lib.ListN.{length, replicate, length-replicate}
@@ -15,40 +15,45 @@ use Rattle.grammar.specs.Pixels.{rowPixels, indexMap}
 use Rattle.rle_model.specs.Codes.{fieldAt}
 use Rattle.rle_model.specs.Field.{rowsFrom, paintField}
 use Rattle.rle_model.specs.Fields.{weave, lowerAt, fieldsAt, FieldsDecoded, bothAnswer, bothPaint, blankRows, BothFit, BothDecoded}
-use Rattle.rle_model.specs.Answers.{nothing, plus, AtMost, rowCounts, fieldCounts, fieldAnswer, plusField, measured, partRows, Counted}
+use Rattle.rle_model.specs.Answers.{nothing, plus, counted, AtMost, rowCounts, fieldCounts, fieldAnswer, plusField, measured, partRows, Counted}
 use Rattle.rle_model.specs.declared.Counts.{Counts}
 use Rattle.rle_model.specs.declared.FieldAnswer.{FieldAnswer}
 use Rattle.rle_model.specs.declared.FieldAnswer.the-variants as field-answer
 use Rattle.rle_model.proofs.Grammar.{paints-pos, field-iff}
-use Rattle.rle_model.proofs.Loops.{plus-nothing, fielded, unfielded, width-fits}
+use Rattle.rle_model.proofs.Loops.{plus-nothing, at-most-le, at-most-plus, at-most-one, fielded, unfielded, width-fits}
 use Rattle.rle_model.proofs.Refusals.{field-refuses}
 use Rattle.rle_model.proofs.Part.{movedRows, moved-field-counts, moved-paint, part-field}
 use Rattle.rle_model.proofs.Weave.{weave-counts, weave-pixels}
 
--- ---- A field counts no more codes than it has pixels
+-- ---- A field counts no more than it has pixels
 
-row-most : (u : List ℕ) (e left p : ℕ) (cs : List Code) → RowCodes u e left p cs → rowCounts left cs .codes ≤ left
+row-most : (u : List ℕ) (e left p : ℕ) (cs : List Code) → RowCodes u e left p cs → AtMost left (rowCounts left cs)
 unfolding RowCodes rowCounts
-row-most u e left p [] h = omega arith
+row-most u e left p [] h = (omega arith, omega arith)
 row-most u e left p (c ∷ cs) h =
-    omega (arith, paints-pos u e left c (h .2) (h .0), row-most u e (left - paints left c) (p + c .size) cs (h .3))
+    at-most-le (1 + (left - paints left c)) left _ (omega (arith, paints-pos u e left c (h .2) (h .0), h .0))
+    (at-most-plus 1 (left - paints left c) (counted left c) (rowCounts (left - paints left c) cs) (at-most-one left c)
+    (row-most u e (left - paints left c) (p + c .size) cs (h .3)))
 
-rows-most : (u : List ℕ) (e w p : ℕ) (rs : List (List Code)) → FieldRows u e w p rs → fieldCounts w rs .codes ≤ length rs * w
+rows-most : (u : List ℕ) (e w p : ℕ) (rs : List (List Code)) → FieldRows u e w p rs → AtMost (length rs * w) (fieldCounts w rs)
 unfolding FieldRows fieldCounts
-rows-most u e w p [] h = omega arith
+rows-most u e w p [] h = (omega arith, omega arith)
 rows-most u e w p (r ∷ rs) h =
-    omega (arith, row-most u e w p r (h .0), rows-most u e w (align (afterCodes p r)) rs (h .1), suc-mul (length rs) w)
+    at-most-le (w + length rs * w) (suc (length rs) * w) _ (omega (arith, suc-mul (length rs) w))
+    (at-most-plus w (length rs * w) (rowCounts w r) (fieldCounts w rs) (row-most u e w p r (h .0))
+    (rows-most u e w (align (afterCodes p r)) rs (h .1)))
 
-pub field-most : (u : List ℕ) (e w n p : ℕ) (b : Counts) → field-answer.Rows b ≡ fieldAnswer w (fieldAt u e w n p) → b .codes ≤ n * w
+pub field-most : (u : List ℕ) (e w n p : ℕ) (b : Counts) → field-answer.Rows b ≡ fieldAnswer w (fieldAt u e w n p) → AtMost (n * w) b
 field-most u e w n p b q = go (fieldAt u e w n p) refl q
   where
-    go : (o : Res (List (List Code))) → fieldAt u e w n p ≡ o → field-answer.Rows b ≡ fieldAnswer w o → b .codes ≤ n * w
+    go : (o : Res (List (List Code))) → fieldAt u e w n p ≡ o → field-answer.Rows b ≡ fieldAnswer w o → AtMost (n * w) b
     go (refuse k) h q′ = let z : _≡_ {A = ℕ} 0 1 = cc in absurd (omega arith)
     go (ok rs) h q′ =
         let z : b ≡ fieldCounts w rs = cc in
         let f = field-iff u e w n p rs .0 h in
         let m : length rs * w ≡ n * w = ap (λ (k : ℕ). k * w) (f .0) in
-        omega (arith, ap (λ (d : Counts). d .codes) z, rows-most u e w p rs (f .1))
+        subst (AtMost (n * w)) (sym z)
+        (at-most-le (length rs * w) (n * w) (fieldCounts w rs) (omega arith) (rows-most u e w p rs (f .1)))
 
 -- ---- Rows that stay 0
 

@@ -1,19 +1,21 @@
 -- Closed inputs on which each edit of this crate's definitions gives another value. Assumes nothing.
 use Prim.Native.Nat.{ℕ, _-_, _^_}
 use mathlib.Core.Path.{_≡_, refl}
-use mathlib.Core.Bool.{false}
+use mathlib.Core.Bool.{true, false}
 use mathlib.Core.List.{[], _∷_}
 use Rattle.outcome.specs.Outcome.{ok}
 use Rattle.outcome.specs.Lists.{listFrom, listFuel}
 use Rattle.grammar.specs.Bytes.{nibble, nibbles}
-use Rattle.grammar.specs.Rows.{code, paints, afterCodes, align}
+use Rattle.grammar.specs.Rows.{code, paints, overshoots, afterCodes, align}
 use Rattle.grammar.specs.Pixels.{rowPixels}
 use Rattle.rle_model.specs.Nibbles.{pastNibble, onByte}
+use Rattle.rle_model.specs.CodeAnswers.{codeAnswer}
 use Rattle.rle_model.specs.Codes.{codeFrom, codeAt, rowAt, fieldAt}
 use Rattle.rle_model.specs.Field.{rowsFrom, paintField}
 use Rattle.rle_model.specs.Kept.{keptRow}
 use Rattle.rle_model.specs.Fields.{weave, lowerAt, fieldsAt, bothAnswer}
 use Rattle.rle_model.specs.Answers.{rowCounts, fieldCounts}
+use Rattle.rle_model.specs.declared.CodeAnswer.the-variants as code-answer
 use Rattle.rle_model.specs.declared.FieldAnswer.the-variants as field-answer
 
 -- the count after a read of a field of one byte: the next inside it, and the same at its end
@@ -36,9 +38,27 @@ unfolding fieldCounts rowCounts paints
 codes-counted = refl
 
 -- a code in each field counts 2
-pub both-counted : bothAnswer 1 (ok ((code 0 1 5 ∷ []) ∷ [])) (ok ((code 2 1 5 ∷ []) ∷ [])) ≡ field-answer.Rows (record { codes = 2 })
-unfolding fieldCounts rowCounts paints
+pub both-counted :
+    bothAnswer 1 (ok ((code 0 1 5 ∷ []) ∷ [])) (ok ((code 2 1 5 ∷ []) ∷ [])) ≡ field-answer.Rows (record { codes = 2; clipped = 0 })
+unfolding fieldCounts rowCounts paints overshoots
 both-counted = refl
+
+-- `9`, a run of two pixels: clipped with one left, not with two
+pub code-clipped : codeAnswer 1 (ok (code 0 1 9)) ∷ codeAnswer 2 (ok (code 0 1 9)) ∷ []
+    ≡ code-answer.Got 1 9 true (record { pos = 1 }) ∷ code-answer.Got 1 9 false (record { pos = 1 }) ∷ []
+unfolding overshoots
+code-clipped = refl
+
+-- `59` in rows of two pixels: the second code has one left
+pub row-clipped : fieldCounts 2 ((code 0 1 5 ∷ code 1 1 9 ∷ []) ∷ []) ≡ record { codes = 2; clipped = 1 }
+unfolding fieldCounts rowCounts paints overshoots
+row-clipped = refl
+
+-- a clipped code in each field counts 2
+pub both-clipped :
+    bothAnswer 1 (ok ((code 0 1 9 ∷ []) ∷ [])) (ok ((code 2 1 9 ∷ []) ∷ [])) ≡ field-answer.Rows (record { codes = 2; clipped = 2 })
+unfolding fieldCounts rowCounts paints overshoots
+both-clipped = refl
 
 -- the top field's row comes first
 pub rows-woven : weave {A = ℕ} (1 ∷ []) (2 ∷ []) ≡ 1 ∷ 2 ∷ []

@@ -1,5 +1,6 @@
--- What a field's answer says in the grammar's words: it is accepted exactly where the grammar lists its rows and the map holds them,
--- and the number of codes and every pixel are the listed rows'; a refusal says which of the two failed. Assumes nothing.
+-- What a field's answer says in the grammar's words: it is accepted exactly where the grammar lists its rows and the map
+-- holds them, and the numbers of codes and of clipped ones and every pixel are the listed rows'; a refusal says which of
+-- the two failed. Assumes nothing.
 use Prim.Native.Nat.{ℕ, _-_, _*_, _≤_, _<_}
 use native.Mathlib.Omega.{arith}
 use mathlib.Core.Path.{_≡_, refl, sym, ap, _∙_, subst}
@@ -10,13 +11,14 @@ use borrow.Author.Tests.{le-leb, lt-leb}
 use Rattle.outcome.specs.Outcome.{Res, ok, refuse, listed, short-pixels}
 use Rattle.outcome.proofs.Laws.{ok-not-refuse, le-or-lt}
 use Rattle.grammar.specs.Rows.{Code, paints}
-use Rattle.grammar.specs.Pixels.{codesIn}
+use Rattle.grammar.specs.Pixels.{codesIn, clippedRow, clippedIn}
 use Rattle.rle_model.specs.Codes.{fieldAt}
 use Rattle.rle_model.specs.Field.{rowsFrom, paintField, decoded}
 use Rattle.rle_model.specs.Answers.{rowCounts, fieldCounts, fieldAnswer, Decoded, listedCounts}
 use Rattle.rle_model.specs.Claim.{Says}
 use Rattle.rle_model.specs.declared.FieldAnswer.{FieldAnswer}
 use Rattle.rle_model.proofs.Grammar.{field-iff}
+use Rattle.rle_model.proofs.Loops.{counts-eq}
 use Rattle.rle_model.proofs.Refusals.{field-refuses}
 
 -- the number of codes is how many the rows list
@@ -30,8 +32,19 @@ unfolding fieldCounts codesIn
 counts-codes w [] = refl
 counts-codes w (r ∷ rs) = omega (arith, row-codes w r, counts-codes w rs)
 
+-- the number of clipped codes is how many of those overshoot
+row-clipped : (left : ℕ) (cs : List Code) → rowCounts left cs .clipped ≡ clippedRow left cs
+unfolding rowCounts clippedRow
+row-clipped left [] = refl
+row-clipped left (c ∷ cs) = omega (arith, row-clipped (left - paints left c) cs)
+
+pub counts-clipped : (w : ℕ) (rs : List (List Code)) → fieldCounts w rs .clipped ≡ clippedIn w rs
+unfolding fieldCounts clippedIn
+counts-clipped w [] = refl
+counts-clipped w (r ∷ rs) = omega (arith, row-clipped w r, counts-clipped w rs)
+
 pub counts-listed : (w : ℕ) (rs : List (List Code)) → fieldCounts w rs ≡ listedCounts w rs
-counts-listed w rs = ap (λ (n : ℕ). record { codes = n }) (counts-codes w rs)
+counts-listed w rs = counts-eq (fieldCounts w rs) (listedCounts w rs) (counts-codes w rs) (counts-clipped w rs)
 
 -- ---- The claim
 
@@ -50,7 +63,7 @@ claim s w h start px r px′ d = ⊎-elim (λ l. go l (fieldAt s (length s) w (r
     go : w * h ≤ length px → (x : Res (List (List Code))) → fieldAt s (length s) w (rowsFrom start h) 0 ≡ x → Says s w h start px px′ r
     go l (ok rs) q =
         let i = field-iff s (length s) w (rowsFrom start h) 0 rs .0 q in
-        told (ok rs) (rw (le-leb (w * h) (length px) l, q)) (λ f. (rs, record { all = i .0; rows = i .1 }, l, counts-codes w rs, f))
+        told (ok rs) (rw (le-leb (w * h) (length px) l, q)) (λ f. (rs, record { all = i .0; rows = i .1 }, l, counts-codes w rs, counts-clipped w rs, f))
     go l (refuse n) q =
         told (refuse n) (rw (le-leb (w * h) (length px) l, q))
         (λ f. (

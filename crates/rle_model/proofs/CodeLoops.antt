@@ -1,14 +1,17 @@
 -- One turn of the loop over a code's nibbles, over plain variables, and what each answer says of the definitions. Assumes nothing.
-use Prim.Native.Nat.{ℕ, zero, suc, _+_, _-_, _*_, _^_, _≤_, _<_}
-use native.Mathlib.Nat.{pow-succ'}
+use Prim.Native.Nat.{ℕ, zero, suc, _+_, _-_, _*_, _/_, _^_, _≤_, _<_}
+use native.Mathlib.Nat.{pow-succ', eq-or-lt-of-le}
 use native.Mathlib.Numerals.{add-one}
 use native.Mathlib.Omega.{arith}
 use mathlib.Core.Path.{_≡_, refl, sym, ap, _∙_, subst}
+use mathlib.Core.Bool.{Bool, false}
+use mathlib.Core.Logic.{⊎-elim}
 use mathlib.Core.List.{List}
-use borrow.Author.Tests.{le-leb, lt-leb}
+use lib.Dec.{ltb}
+use borrow.Author.Tests.{le-leb, lt-leb, lt-ltb, le-ltb, eq-eqb, ne-eqb}
 use Rattle.outcome.specs.Outcome.{Res, ok, refuse, field-ran-out}
 use Rattle.grammar.specs.Bytes.{nibble, nibbles}
-use Rattle.grammar.specs.Rows.{Code, code, IsCode}
+use Rattle.grammar.specs.Rows.{Code, code, IsCode, overshoots}
 use Rattle.rle_model.specs.Codes.{made, codeFrom, codeAt}
 use Rattle.rle_model.specs.CodeAnswers.{codeAnswer}
 use Rattle.rle_model.specs.declared.Cursor.{Cursor}
@@ -58,6 +61,20 @@ module _ (u : List ℕ) (e p k : ℕ) where
       let z : 4 - k ≡ suc (4 - (k + 1)) = omega arith in
       rw (z, le-leb _ _ h, lt-leb _ _ l, add-one)
 
+-- ---- Whether a code is clipped, by the length at which it was found
+
+-- a code found for its number fills nothing: it is clipped where its run is longer than what is left
+pub hit-clips : (left p k v : ℕ) → k ≤ 4 → 4 ^ k ≤ v → overshoots left (code p k v) ≡ ltb left (v / 4)
+unfolding overshoots
+hit-clips left p k v f h =
+    ⊎-elim (λ q. let l : 256 ≤ v = rw q at h in rw (eq-eqb k 4 q, le-ltb v 256 l))
+    (λ q. rw (ne-eqb k 4 (omega arith))) (eq-or-lt-of-le f)
+
+-- the last length with a smaller number is a fill
+pub last-clips : (left p k v : ℕ) → k ≡ 4 → v < 4 ^ k → overshoots left (code p k v) ≡ false
+unfolding overshoots
+last-clips left p k v q h = let l : v < 256 = rw q at h in rw (eq-eqb k 4 q, lt-ltb v 256 l)
+
 -- ---- What an answer says
 
 -- of a code
@@ -66,10 +83,11 @@ pub record Coded (u : List ℕ) (e p k v : ℕ) (x : Cursor) : Type 0 where
   pub goes : x .pos ≡ p + k
   pub is : IsCode u e (code p k v)
 
-pub coded : (u : List ℕ) (e p k v : ℕ) (x : Cursor) → code-answer.Got k v x ≡ codeAnswer (codeAt u e p) → Coded u e p k v x
-coded u e p k v x q = go (codeAt u e p) refl q
+pub coded : (u : List ℕ) (e left p k v : ℕ) (b : Bool) (x : Cursor)
+    → code-answer.Got k v b x ≡ codeAnswer left (codeAt u e p) → Coded u e p k v x
+coded u e left p k v b x q = go (codeAt u e p) refl q
   where
-    go : (o : Res Code) → codeAt u e p ≡ o → code-answer.Got k v x ≡ codeAnswer o → Coded u e p k v x
+    go : (o : Res Code) → codeAt u e p ≡ o → code-answer.Got k v b x ≡ codeAnswer left o → Coded u e p k v x
     go (refuse n) h q′ = let z : _≡_ {A = ℕ} 0 1 = cc in absurd (omega arith)
     go (ok c) h q′ =
         let f = code-sound u e p c h in
@@ -83,9 +101,18 @@ coded u e p k v x q = go (codeAt u e p) refl q
           is = subst (IsCode u e) same (f .1);
         }
 
-pub uncoded : (u : List ℕ) (e p n : ℕ) → code-answer.Refused n ≡ codeAnswer (codeAt u e p) → codeAt u e p ≡ refuse n
-uncoded u e p n q = go (codeAt u e p) refl q
+-- and whether it is clipped
+pub clips : (u : List ℕ) (e left p k v : ℕ) (b : Bool) (x : Cursor)
+    → code-answer.Got k v b x ≡ codeAnswer left (codeAt u e p) → b ≡ overshoots left (code p k v)
+clips u e left p k v b x q =
+    let h = coded u e left p k v b x q .here in
+    let z : overshoots left (code p k v) ≡ b = cc in
+    sym z
+
+pub uncoded : (u : List ℕ) (e left p n : ℕ) → code-answer.Refused n ≡ codeAnswer left (codeAt u e p)
+    → codeAt u e p ≡ refuse n
+uncoded u e left p n q = go (codeAt u e p) refl q
   where
-    go : (o : Res Code) → codeAt u e p ≡ o → code-answer.Refused n ≡ codeAnswer o → codeAt u e p ≡ refuse n
+    go : (o : Res Code) → codeAt u e p ≡ o → code-answer.Refused n ≡ codeAnswer left o → codeAt u e p ≡ refuse n
     go (refuse m) h q′ = let z : m ≡ n = cc in h ∙ ap refuse z
     go (ok c) h q′ = let z : _≡_ {A = ℕ} 0 1 = cc in absurd (omega arith)

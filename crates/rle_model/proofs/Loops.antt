@@ -3,7 +3,7 @@ use Prim.Native.Nat.{ℕ, zero, suc, zero-le, _+_, _-_, _*_, _/_, _%_, _≤_, _<
 use native.Mathlib.Nat.{suc-mul, zero-mul, mul-comm, mul-le-mul-right, le-mul-of-pos-right, lt-of-le-of-lt, add-mul, mul-assoc, le-div-iff-mul-le}
 use native.Mathlib.Omega.{arith, not-le}
 use mathlib.Core.Path.{_≡_, refl, sym, ap, _∙_, subst}
-use mathlib.Core.Bool.{true, false}
+use mathlib.Core.Bool.{Bool, true, false, cond}
 use mathlib.Core.Logic.{⊎-elim, _↔_}
 use mathlib.Core.List.{List, [], _∷_}
 use lib.ListN.{length, set, replicate, length-replicate}
@@ -12,14 +12,14 @@ use lib.Dec.{leb}
 use borrow.Author.Tests.{le-leb, lt-leb}
 use Rattle.outcome.proofs.Laws.{le-or-lt, sets-append}
 use Rattle.outcome.specs.Outcome.{Res, ok, refuse, andThen, consRes, listed, IsOk, short-pixels}
-use Rattle.grammar.specs.Rows.{Code, code, paints, RowCodes, afterCodes, align}
+use Rattle.grammar.specs.Rows.{Code, code, paints, overshoots, RowCodes, afterCodes, align}
 use Rattle.grammar.specs.Pixels.{rowPixels}
 use Rattle.rle_model.specs.Nibbles.{onByte}
 use Rattle.rle_model.proofs.Nibbles.{on-byte}
 use Rattle.rle_model.specs.Codes.{codeAt, rowAt, fieldAt}
 use Rattle.rle_model.specs.Field.{rowsFrom, paintField, decoded}
 use Rattle.rle_model.specs.Kept.{keptRow, keptAll}
-use Rattle.rle_model.specs.Answers.{nothing, plus, counted, AtMost, rowCounts, fieldCounts, rowAnswer, fieldAnswer, plusField, RowsDecoded, Decoded}
+use Rattle.rle_model.specs.Answers.{nothing, plus, counted, lastCounts, AtMost, rowCounts, fieldCounts, rowAnswer, fieldAnswer, plusField, RowsDecoded, Decoded}
 use Rattle.rle_model.specs.declared.Cursor.{Cursor}
 use Rattle.rle_model.specs.declared.Counts.{Counts}
 use Rattle.rle_model.specs.declared.RowAnswer.{RowAnswer}
@@ -27,28 +27,46 @@ use Rattle.rle_model.specs.declared.RowAnswer.the-variants as row-answer
 use Rattle.rle_model.specs.declared.FieldAnswer.{FieldAnswer}
 use Rattle.rle_model.specs.declared.FieldAnswer.the-variants as field-answer
 use Rattle.rle_model.proofs.Grammar.{row-iff, row-step, row-none}
+use Rattle.grammar.proofs.Clipped.{clipped-paints}
 use Rattle.rle_model.proofs.CodeLoops.{Coded}
 
 -- ---- Counts: the laws of their sum
 
+-- two are the same where each number is
+pub counts-eq : (a b : Counts) → a .codes ≡ b .codes → a .clipped ≡ b .clipped → a ≡ b
+counts-eq a b p q = λ i. record { codes = p i; clipped = q i }
+
 pub plus-assoc : (a b c : Counts) → plus (plus a b) c ≡ plus a (plus b c)
-plus-assoc a b c = let z : a .codes + b .codes + c .codes ≡ a .codes + (b .codes + c .codes) = omega arith in λ i. record { codes = z i }
+plus-assoc a b c = counts-eq (plus (plus a b) c) (plus a (plus b c)) (omega arith) (omega arith)
 
 pub plus-nothing : (a : Counts) → plus a nothing ≡ a
-plus-nothing a = let z : a .codes + 0 ≡ a .codes = omega arith in λ i. record { codes = z i }
+plus-nothing a = counts-eq (plus a nothing) a (omega arith) (omega arith)
 
 pub nothing-plus : (a : Counts) → plus nothing a ≡ a
-nothing-plus a = let z : 0 + a .codes ≡ a .codes = omega arith in λ i. record { codes = z i }
+nothing-plus a = counts-eq (plus nothing a) a (omega arith) (omega arith)
 
 pub at-most-le : (m n : ℕ) (a : Counts) → m ≤ n → AtMost m a → AtMost n a
-at-most-le m n a h l = omega arith
+at-most-le m n a h l = (omega (arith, l .0), omega (arith, l .1))
+
+pub at-most-plus : (m n : ℕ) (a b : Counts) → AtMost m a → AtMost n b → AtMost (m + n) (plus a b)
+at-most-plus m n a b h l = (omega (arith, h .0, l .0), omega (arith, h .1, l .1))
 
 pub at-most-align : (m : ℕ) (a : Counts) → AtMost m a → AtMost (align m) a
 unfolding align
 at-most-align m a l = at-most-le m (m + m % 2) a (omega arith) l
 
+-- a code counts one at most
+pub at-most-one : (left : ℕ) (c : Code) → AtMost 1 (counted left c)
+at-most-one left c = (omega arith, go (overshoots left c))
+  where
+    go : (b : Bool) → cond b 1 0 ≤ 1
+    go true = omega arith
+    go false = omega arith
+
 pub at-most-counted : (p k left : ℕ) (c : Code) (a : Counts) → 1 ≤ k → AtMost p a → AtMost (p + k) (plus a (counted left c))
-at-most-counted p k left c a h l = omega arith
+at-most-counted p k left c a h l =
+    at-most-le (p + 1) (p + k) (plus a (counted left c)) (omega arith)
+    (at-most-plus p 1 a (counted left c) l (at-most-one left c))
 
 -- ---- Stores
 
@@ -70,6 +88,18 @@ plusRow a (row-answer.Refused n) = row-answer.Refused n
 pub row-whole : (r : RowAnswer) → plusRow nothing r ≡ r
 row-whole (row-answer.Row b x) = ap (λ (a : Counts). row-answer.Row a x) (nothing-plus b)
 row-whole (row-answer.Refused n) = refl
+
+-- a code after n of which the last is clipped only where nothing is left
+pub last-more : (n : ℕ) (t f : Bool) (left : ℕ) (c : Code) → (t ≡ true → left ≡ 0) → 0 < left → f ≡ overshoots left c
+    → lastCounts (n + 1) f ≡ plus (lastCounts n t) (counted left c)
+last-more n true f left c h l q = absurd (omega (arith, h refl))
+last-more n false f left c h l q =
+    counts-eq (lastCounts (n + 1) f) (plus (lastCounts n false) (counted left c)) refl (rw q (omega arith))
+
+-- after a clipped code nothing is left
+pub last-over : (left p k v m : ℕ) (f : Bool) → f ≡ overshoots left (code p k v) → m ≡ paints left (code p k v)
+    → f ≡ true → left - m ≡ 0
+last-over left p k v m f q e t = omega (arith, clipped-paints left (code p k v) (sym q ∙ t))
 
 module _ (u : List ℕ) (e left p : ℕ) (h : 0 < left) where
   pub row-turn : (k v m : ℕ) (x : Cursor) → Coded u e p k v x → m ≡ paints left (code p k v)

@@ -12,11 +12,11 @@ use borrow.Author.Tests.{le-leb, lt-leb}
 use Rattle.outcome.specs.Outcome.{Res, ok, refuse, andThen, consRes, mapRes}
 use Rattle.outcome.proofs.Laws.{le-or-lt, part-slice}
 use Rattle.grammar.specs.Bytes.{nibble, nibbles}
-use Rattle.grammar.specs.Rows.{Code, code, paints, afterCodes, align}
+use Rattle.grammar.specs.Rows.{Code, code, paints, overshoots, afterCodes, align}
 use Rattle.grammar.specs.Pixels.{rowPixels}
 use Rattle.rle_model.specs.Codes.{made, codeFrom, codeAt, rowAt, fieldAt}
 use Rattle.rle_model.specs.Field.{paintField}
-use Rattle.rle_model.specs.Answers.{rowCounts, fieldCounts}
+use Rattle.rle_model.specs.Answers.{plus, counted, rowCounts, fieldCounts}
 use Rattle.rle_model.proofs.Grammar.{code-sound, paints-pos, row-step, row-none}
 
 -- the same code, k half bytes on
@@ -34,9 +34,9 @@ movedRows k (r ∷ rs) = movedRow k r ∷ movedRows k rs
 -- ---- What does not look at places
 
 pub moved-counts : (k left : ℕ) (cs : List Code) → rowCounts left (movedRow k cs) ≡ rowCounts left cs
-unfolding rowCounts paints
+unfolding rowCounts paints overshoots
 moved-counts k left [] = refl
-moved-counts k left (c ∷ cs) = let z = moved-counts k (left - paints left c) cs in λ i. record { codes = 1 + z i .codes }
+moved-counts k left (c ∷ cs) = ap (plus (counted left c)) (moved-counts k (left - paints left c) cs)
 
 pub moved-pixels : (k left : ℕ) (cs : List Code) → rowPixels left (movedRow k cs) ≡ rowPixels left cs
 unfolding rowPixels paints

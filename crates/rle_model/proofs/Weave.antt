@@ -10,9 +10,10 @@ use Rattle.grammar.specs.Rows.{Code}
 use Rattle.grammar.specs.Pixels.{rowPixels, indexMap}
 use Rattle.rle_model.specs.Field.{paintField}
 use Rattle.rle_model.specs.Fields.{weave}
-use Rattle.rle_model.specs.Answers.{plus, rowCounts, fieldCounts}
+use Rattle.rle_model.specs.Answers.{nothing, plus, rowCounts, fieldCounts}
 use Rattle.rle_model.specs.declared.Counts.{Counts}
 use Rattle.grammar.proofs.Lengths.{row-length}
+use Rattle.rle_model.proofs.Loops.{counts-eq, plus-nothing}
 
 -- ---- Stores at places apart, in either order
 
@@ -38,21 +39,19 @@ paint-sets w o (r ∷ rs) px j b h =
 
 -- ---- Woven rows
 
+plus-swap : (a b c d : Counts) → plus (plus a b) (plus c d) ≡ plus a (plus c (plus b d))
+plus-swap a b c d = counts-eq (plus (plus a b) (plus c d)) (plus a (plus c (plus b d))) (omega arith) (omega arith)
+
 pub weave-counts : (w : ℕ) (a b : List (List Code)) → length b ≤ length a → length a ≤ length b + 1
     → plus (fieldCounts w a) (fieldCounts w b) ≡ fieldCounts w (weave a b)
 unfolding weave fieldCounts
 weave-counts w [] [] h l = refl
 weave-counts w [] (y ∷ b) h l = absurd (omega arith)
-weave-counts w (x ∷ []) [] h l = λ i. record { codes = z i }
-  where
-    z : rowCounts w x .codes + 0 + 0 ≡ rowCounts w x .codes + 0
-    z = omega arith
+weave-counts w (x ∷ []) [] h l = plus-nothing (plus (rowCounts w x) nothing)
 weave-counts w (x ∷ x′ ∷ a) [] h l = absurd (omega arith)
 weave-counts w (x ∷ a) (y ∷ b) h l =
-    let i : fieldCounts w a .codes + fieldCounts w b .codes ≡ fieldCounts w (weave a b) .codes = ap (λ (c : Counts). c .codes) (weave-counts w a b (omega arith) (omega arith)) in
-    let z : rowCounts w x .codes + fieldCounts w a .codes + (rowCounts w y .codes + fieldCounts w b .codes)
-    ≡ rowCounts w x .codes + (rowCounts w y .codes + fieldCounts w (weave a b) .codes) = omega arith in
-    λ j. record { codes = z j }
+    plus-swap (rowCounts w x) (fieldCounts w a) (rowCounts w y) (fieldCounts w b)
+    ∙ ap (λ (c : Counts). plus (rowCounts w x) (plus (rowCounts w y) c)) (weave-counts w a b (omega arith) (omega arith))
 
 pub weave-pixels : (w o : ℕ) (a b : List (List Code)) (px : List ℕ) → length b ≤ length a → length a ≤ length b + 1
     → paintField w (o + w) b (paintField w o a px) ≡ sets px o (indexMap w (weave a b))

@@ -2,12 +2,13 @@
 -- Assumes nothing: these are definitions.
 use Prim.Native.Nat.{ℕ, _+_, _-_, _*_, _≤_}
 use mathlib.Core.Path.{_≡_}
+use mathlib.Core.Bool.{Bool, cond}
 use mathlib.Core.List.{List, [], _∷_}
 use lib.ListN.{length, take}
 use lib.Seq.{sets}
 use Rattle.outcome.specs.Outcome.{Res, ok, refuse, listed, IsOk}
-use Rattle.grammar.specs.Rows.{Code, paints, afterCodes}
-use Rattle.grammar.specs.Pixels.{rowPixels, codesIn}
+use Rattle.grammar.specs.Rows.{Code, paints, overshoots, afterCodes}
+use Rattle.grammar.specs.Pixels.{rowPixels, codesIn, clippedIn}
 use Rattle.rle_model.specs.Codes.{rowAt, rowRead, fieldAt, fieldRead}
 use Rattle.rle_model.specs.Field.{decoded, paintField}
 use Rattle.rle_model.specs.Kept.{keptRow, keptAll}
@@ -18,21 +19,25 @@ use Rattle.rle_model.specs.declared.RowAnswer.the-variants as row-answer
 use Rattle.rle_model.specs.declared.FieldAnswer.{FieldAnswer}
 use Rattle.rle_model.specs.declared.FieldAnswer.the-variants as field-answer
 
--- ---- What rows count (FORMAT 5.9)
+-- ---- What rows count (FORMAT 5.9, 5.11)
 
 abbrev pub nothing : Counts
-nothing = record { codes = 0 }
+nothing = record { codes = 0; clipped = 0 }
 
 abbrev pub plus : Counts → Counts → Counts
-plus a b = record { codes = a .codes + b .codes }
+plus a b = record { codes = a .codes + b .codes; clipped = a .clipped + b .clipped }
 
 -- what the code c adds, with `left` pixels of its row to go
 abbrev pub counted : ℕ → Code → Counts
-counted left c = record { codes = 1 }
+counted left c = record { codes = 1; clipped = cond (overshoots left c) 1 0 }
+
+-- what n codes of a row count, by whether the last of them is clipped: no code follows one that is
+abbrev pub lastCounts : ℕ → Bool → Counts
+lastCounts n b = record { codes = n; clipped = cond b 1 0 }
 
 -- each count is at most n
 abbrev pub AtMost : ℕ → Counts → Type 0
-AtMost n a = a .codes ≤ n
+AtMost n a = (a .codes ≤ n) × (a .clipped ≤ n)
 
 unfoldable pub rowCounts : ℕ → List Code → Counts
 rowCounts left [] = nothing
@@ -44,7 +49,7 @@ fieldCounts w (r ∷ rs) = plus (rowCounts w r) (fieldCounts w rs)
 
 -- the same of listed rows of width w, in the grammar's words
 abbrev pub listedCounts : ℕ → List (List Code) → Counts
-listedCounts w rs = record { codes = codesIn rs }
+listedCounts w rs = record { codes = codesIn rs; clipped = clippedIn w rs }
 
 -- ---- Answers
 

@@ -15,10 +15,12 @@ pub struct Cursor {
 
 // What reading a code finds.
 pub enum CodeAnswer {
-    // A code of `size` nibbles that make `value`, and the place after it.
+    // A code of `size` nibbles that make `value`, whether it is longer than what was left of its row, and the place
+    // after it.
     Got {
         size: usize,
         value: usize,
+        clipped: bool,
         next: Cursor,
     },
     // The number of the refusal.
@@ -29,6 +31,8 @@ pub enum CodeAnswer {
 pub struct Counts {
     // Codes read, fills and clipped ones included.
     pub codes: usize,
+    // Those of them that are longer than what was left of their row.
+    pub clipped: usize,
 }
 
 // What measuring a row finds.

@@ -1,5 +1,6 @@
 // Runs rows through the exported functions, and writes a line for each: the function, the row's name, its answer, and
-// the memory lent for it, with `.` for what is as found: bytes of 238, words of EEEE, starts of -77, positions of 77.
+// the memory lent for it, with `.` for what is as found: bytes of 238, words of EEEE, starts of -77, positions of 77,
+// and for decode_rle_field both numbers of codes, of 77.
 // A line of standard input is a row: the function, its name, its numbers, its bytes, and for decode_cue the bytes of
 // the file, with a bar between them. The numbers are those of the call in its order, and how much memory is lent:
 // parse_and_decode_spu: map, words. extract_spu: position, stream; scratch. parse_idx: starts, positions.
@@ -55,7 +56,7 @@ fn of_byte(b: u8) -> usize {
 
 // Writes a form: for bytes 40 to 4F (`@`, `A` to `O`) number 0 to 15 in decimal, for 50 to 5F the same in hexadecimal,
 // and others as they are.
-fn form(s: &[u8], numbers: &[usize; 16]) {
+fn form(s: &[u8], numbers: &[usize; 17]) {
     let mut i = 0;
     while i < s.len() {
         let c = s[i];
@@ -65,13 +66,13 @@ fn form(s: &[u8], numbers: &[usize; 16]) {
 }
 
 fn pair(s: &[u8], a: usize, b: usize) {
-    let mut numbers = [a; 16];
+    let mut numbers = [a; 17];
     numbers[1] = b;
     form(s, &numbers);
 }
 
 fn number(n: usize) {
-    form(b" @", &[n; 16]);
+    form(b" @", &[n; 17]);
 }
 
 // Whether nothing is refused.
@@ -79,7 +80,7 @@ fn answered(refusal: u8) -> bool {
     if refusal == 0 {
         return true;
     }
-    form(b": refused @", &[refusal as usize; 16]);
+    form(b": refused @", &[refusal as usize; 17]);
     false
 }
 
@@ -99,7 +100,7 @@ fn value(bytes: &[u8], words: &[u16], i: usize) -> usize {
 
 fn run(count: usize, value: usize, found: usize) {
     if value == found {
-        form(b" @x.", &[count; 16]);
+        form(b" @x.", &[count; 17]);
         return;
     }
     pair(b" @xA", count, value);
@@ -151,13 +152,14 @@ fn word_cells(label: &[u8], s: &[u16]) {
 }
 
 fn decoded(unit: &[u8], map: &mut [u8], words: &mut [u16]) {
-    let mut numbers: [usize; 16] = [0; 16];
+    let mut numbers: [usize; 17] = [0; 17];
     let refusal = vobsub_c::vobsub_parse_and_decode_spu(unit, map, words, &mut numbers);
     if answered(refusal) {
         form(
             b": area @ A B C, selectors T, alphas U, start F G, stop H I, forced J, offsets K L, change M, band words N, codes O",
             &numbers,
         );
+        form(b", clipped @", &[numbers[16]; 17]);
     }
     byte_runs(b"; map", map);
     word_cells(b"; words", words);
@@ -194,10 +196,10 @@ fn extracted(file: &[u8], position: usize, stream: usize, scratch: &mut [u8]) {
     );
     if answered(refusal) {
         if joined == 0 {
-            form(b": bare @,", &[length; 16]);
+            form(b": bare @,", &[length; 17]);
             part_of(file, position, length);
         } else {
-            form(b": joined @,", &[length; 16]);
+            form(b": joined @,", &[length; 17]);
             part_of(scratch, 0, length);
         }
     }
@@ -263,7 +265,7 @@ fn all_positions(positions: &[u64]) {
 
 // Whether there is a palette, and its colours.
 fn colours(any: usize, palette: &[u8; 48]) {
-    form(b", palette @", &[any; 16]);
+    form(b", palette @", &[any; 17]);
     if any == 0 {
         return;
     }
@@ -284,7 +286,7 @@ fn indexed(text: &[u8], starts: &mut [i64], positions: &mut [u64]) {
     if answered(refusal) {
         pair(b": size @ A", numbers[0], numbers[1]);
         colours(numbers[2], &palette);
-        form(b", cues @", &[numbers[3]; 16]);
+        form(b", cues @", &[numbers[3]; 17]);
     }
     all_starts(starts);
     all_positions(positions);
@@ -300,10 +302,10 @@ fn index(text: &[u8], a: usize, b: usize) {
     }
 }
 
-fn sizes(numbers: &[u64; 9]) -> [usize; 16] {
-    let mut all = [0; 16];
+fn sizes(numbers: &[u64; 10]) -> [usize; 17] {
+    let mut all = [0; 17];
     let mut i = 0;
-    while i < 9 {
+    while i < 10 {
         all[i] = of_long(numbers[i]);
         i += 1;
     }
@@ -322,23 +324,26 @@ fn cue(text: &[u8], n: usize) {
     let mut start: i64 = 0;
     let mut palette: [u8; 48] = [0; 48];
     let mut numbers: [u64; 4] = [0; 4];
-    form(b", cue @", &[n; 16]);
+    form(b", cue @", &[n; 17]);
     let refusal = vobsub_c::vobsub_pick_cue(text, n, &mut start, &mut palette, &mut numbers);
     if answered(refusal) {
         say(b": start");
         signed(start);
-        form(b", position @, duration", &[of_long(numbers[0]); 16]);
+        form(b", position @, duration", &[of_long(numbers[0]); 17]);
         lasts(numbers[1], numbers[2]);
         colours(of_long(numbers[3]), &palette);
     }
 }
 
-fn shown(refusal: u8, start: i64, numbers: &[u64; 9]) {
+fn shown(refusal: u8, start: i64, numbers: &[u64; 10]) {
     if answered(refusal) {
         say(b":");
         signed(start);
         lasts(numbers[0], numbers[1]);
-        form(b", at D E, size F G, delays B C, codes H", &sizes(numbers));
+        form(
+            b", at D E, size F G, delays B C, codes H, clipped I",
+            &sizes(numbers),
+        );
     }
 }
 
@@ -357,7 +362,7 @@ fn painted(
     canvas: &mut [u8],
 ) {
     let mut start: i64 = 0;
-    let mut numbers: [u64; 9] = [0; 9];
+    let mut numbers: [u64; 10] = [0; 10];
     let refusal = vobsub_c::vobsub_decode_cue(
         text,
         file,
@@ -418,7 +423,8 @@ fn paint(line: &[u8], text: &[u8]) {
 }
 
 fn field_decoded(field: &[u8], width: usize, height: usize, start_row: usize, map: &mut [u8]) {
-    let mut codes: usize = 0;
+    let mut codes: usize = 77;
+    let mut clipped: usize = 77;
     let refusal = vobsub_c::vobsub_decode_rle_field(
         field,
         width,
@@ -426,10 +432,17 @@ fn field_decoded(field: &[u8], width: usize, height: usize, start_row: usize, ma
         start_row,
         map,
         &mut codes,
+        &mut clipped,
     );
     if answered(refusal) {
-        form(b": codes @", &[codes; 16]);
+        say(b":");
+    } else {
+        say(b",");
     }
+    say(b" codes");
+    position(codes as u64);
+    say(b", clipped");
+    position(clipped as u64);
     byte_runs(b",", map);
 }
 
@@ -451,14 +464,14 @@ fn bands_stored(payload: &[u8], place: usize, words: &mut [u16], from: usize) {
     let mut count: usize = 0;
     let refusal = vobsub_c::vobsub_parse_chg_colcon_payload(payload, words, place, &mut count);
     if answered(refusal) {
-        form(b": words @", &[count; 16]);
+        form(b": words @", &[count; 17]);
     }
     if from == 0 {
         word_cells(b",", words);
         return;
     }
     if from <= words.len() {
-        form(b", the last @", &[words.len() - from; 16]);
+        form(b", the last @", &[words.len() - from; 17]);
         word_cells(b"", &words[from..]);
     }
 }

@@ -1,12 +1,13 @@
 -- Closed inputs on which each edit of this crate's definitions gives another value. Assumes nothing.
 use mathlib.Core.Path.{_≡_, refl}
 use mathlib.Core.Bool.{false}
-use mathlib.Core.List.{[], _∷_}
+use mathlib.Core.List.{List, [], _∷_}
 use Rattle.outcome.specs.Outcome.{ok, refuse, refusalOf, short-pixels}
 use Rattle.outcome.specs.Lists.{listFuel, listFrom}
 use Rattle.grammar.specs.Bytes.{word, nibble, nibbles}
-use Rattle.grammar.specs.Rows.{code, paints, afterCodes, align}
-use Rattle.grammar.specs.Pixels.{codesIn}
+use Rattle.grammar.specs.Rows.{code, paints, overshoots, afterCodes, align}
+use Rattle.grammar.specs.Pixels.{codesIn, clippedRow, clippedIn}
+use Rattle.grammar.specs.Control.{area, Block}
 use Rattle.grammar.specs.Record.{told, commandsOf, commandsIn, firstDelay, lastDelay, lastNumbers, stands, allBands}
 use Rattle.grammar.specs.Picture.{topEnd}
 use Rattle.rle_model.specs.Codes.{codeFrom, codeAt, rowAt, fieldAt}
@@ -22,9 +23,14 @@ use Rattle.spu_model.specs.declared.SpuAnswer.the-variants as spu-answer
 pub no-bottom : hasBottom 9 0 ≡ false
 no-bottom = refl
 
--- one row of two codes
-pub two-codes : spuAnswer (ok (record { blocks = []; rows = (code 0 1 5 ∷ code 1 1 6 ∷ []) ∷ [] })) ≡ spu-answer.Shows (spuOf (told []) (record { codes = 2 }))
-unfolding codesIn
+-- an area of two pixels, and one row of two codes, the second a run of two
+abbrev blocks : List Block
+blocks = record { place = 0; delay = 0; next = 0; commands = record { place = 4; order = area 0 1 0 0 } ∷ [] } ∷ []
+
+pub two-codes :
+    spuAnswer (ok (record { blocks = blocks; rows = (code 0 1 5 ∷ code 1 1 9 ∷ []) ∷ [] }))
+    ≡ spu-answer.Shows (spuOf (told blocks) (record { codes = 2; clipped = 1 }))
+unfolding codesIn clippedIn clippedRow overshoots paints told commandsOf commandsIn firstDelay lastDelay lastNumbers stands allBands
 two-codes = refl
 
 -- the unit `00 04 00 04` is none that is refused

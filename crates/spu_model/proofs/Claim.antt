@@ -60,6 +60,7 @@ recorded l =
       changed = refl;
       band-words = refl;
       codes = refl;
+      clipped = refl;
     }
 
 pub claim : (u px ws : List ℕ) (r : SpuAnswer) (px′ ws′ : List ℕ) → Decoded u px ws r px′ ws′ → Says u px ws px′ ws′ r

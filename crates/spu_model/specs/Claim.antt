@@ -6,7 +6,7 @@ use lib.ListN.{length}
 use lib.Seq.{sets}
 use Rattle.grammar.specs.Bands.{bandWords}
 use Rattle.grammar.specs.Rows.{Code}
-use Rattle.grammar.specs.Pixels.{indexMap, codesIn}
+use Rattle.grammar.specs.Pixels.{indexMap, codesIn, clippedIn}
 use Rattle.grammar.specs.Record.{Told, told, delayOf, width, height}
 use Rattle.grammar.specs.Picture.{ListedUnit, IsUnit}
 use Rattle.control_model.specs.Answers.{given}
@@ -36,6 +36,7 @@ pub record Recorded (t : Told) (rs : List (List Code)) (s : Spu) : Type 0 where
   pub changed : s .«saw_chg_colcon» ≡ t .changed
   pub band-words : s .«band_words» ≡ length (bandWords (t .bands))
   pub codes : s .counts .codes ≡ codesIn rs
+  pub clipped : s .counts .clipped ≡ clippedIn (width t) rs
 
 -- a record is of a unit that is listed, for which map and words are long enough, and these hold what is listed; a refusal leaves both as
 -- found, and says that none such is listed

@@ -117,15 +117,21 @@ abbrev pub fieldRefusal : FieldAnswer → ℕ
 fieldRefusal (field-answer.Rows n) = 0
 fieldRefusal (field-answer.Refused k) = k
 
--- the number of codes, or the number that was there
+-- the number of codes, or the number that was there; and that of clipped ones
 abbrev pub fieldCodes : FieldAnswer → ℕ → ℕ
 fieldCodes (field-answer.Rows n) before = n .codes
 fieldCodes (field-answer.Refused k) before = before
 
-pub record FieldDecoded (field : List ℕ) (w h start : ℕ) (pixels : List ℕ) (before r : ℕ) (pixels′ : List ℕ) (after : ℕ) : Type 0 where
+abbrev pub fieldClipped : FieldAnswer → ℕ → ℕ
+fieldClipped (field-answer.Rows n) before = n .clipped
+fieldClipped (field-answer.Refused k) before = before
+
+pub record FieldDecoded (field : List ℕ) (w h start : ℕ) (pixels : List ℕ) (codes clipped r : ℕ) (pixels′ : List ℕ)
+    (codes′ clipped′ : ℕ) : Type 0 where
   pub refusal : r ≡ fieldRefusal (fieldAnswer w (decoded field w h start pixels))
   pub returned : Returned (decoded field w h start pixels) r
-  pub codes : after ≡ fieldCodes (fieldAnswer w (decoded field w h start pixels)) before
+  pub counts : codes′ ≡ fieldCodes (fieldAnswer w (decoded field w h start pixels)) codes
+  pub clips : clipped′ ≡ fieldClipped (fieldAnswer w (decoded field w h start pixels)) clipped
   pub stores : pixels′ ≡ paintField w (start * w) (listed (decoded field w h start pixels)) pixels
 
 abbrev pub spuRefusal : SpuAnswer → ℕ

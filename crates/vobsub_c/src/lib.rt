@@ -80,8 +80,9 @@ pub extern "C" fn vobsub_parse_pes_body(pes: &[u8], body: &mut usize) -> u8
     NO_UNIT
 }
 
-// The rows start_row, start_row + 2, .. of a map of that width and height, and how many codes they have.
-// Ruled out: a number of codes set on a refusal; rows of the other field painted.
+// The rows start_row, start_row + 2, .. of a map of that width and height, how many codes they have, and how many of
+// them are clipped.
+// Ruled out: a number set on a refusal; the numbers in each other's place; rows of the other field painted.
 #[no_mangle]
 pub extern "C" fn vobsub_decode_rle_field(
     field: &[u8],
@@ -90,12 +91,14 @@ pub extern "C" fn vobsub_decode_rle_field(
     start_row: usize,
     pixels: &mut [u8],
     codes: &mut usize,
+    clipped: &mut usize,
 ) -> u8
-    ensures { λ r. ⌜ FieldDecoded (now (field .entry)) width height «start_row» (now (pixels .entry)) (now (codes .entry)) r (now (pixels .exit)) (now (codes .exit)) ⌝ }
+    ensures { λ r. ⌜ FieldDecoded (now (field .entry)) width height «start_row» (now (pixels .entry)) (now (codes .entry)) (now (clipped .entry)) r (now (pixels .exit)) (now (codes .exit)) (now (clipped .exit)) ⌝ }
 {
     match rle::decode_rle_field(field, width, height, start_row, pixels) {
         FieldAnswer::Rows(counts) => {
             *codes = counts.codes;
+            *clipped = counts.clipped;
             0
         }
         FieldAnswer::Refused(number) => number,
@@ -109,7 +112,7 @@ pub extern "C" fn vobsub_parse_and_decode_spu(
     unit: &[u8],
     pixels: &mut [u8],
     words: &mut [u16],
-    numbers: &mut [usize; 16],
+    numbers: &mut [usize; 17],
 ) -> u8
     ensures { λ r. ⌜ UnitDecoded (now (unit .entry)) (now (pixels .entry)) (now (words .entry)) (now (numbers .entry)) r (now (pixels .exit)) (now (words .exit)) (now (numbers .exit)) ⌝ }
 {
@@ -204,7 +207,7 @@ pub extern "C" fn vobsub_decode_cue(
     words: &mut [u16],
     canvas: &mut [u8],
     start: &mut i64,
-    numbers: &mut [u64; 9],
+    numbers: &mut [u64; 10],
 ) -> u8
     ensures { λ r. ⌜ CueDecoded (now (text .entry)) (now (file .entry)) (wanted cue stream) (lent (now (scratch .entry)) (now (pixels .entry)) (now (words .entry)) (now (canvas .entry))) (now (start .entry)) (now (numbers .entry)) r (lent (now (scratch .exit)) (now (pixels .exit)) (now (words .exit)) (now (canvas .exit))) (now (start .exit)) (now (numbers .exit))
         × CueUndisturbed (now (text .entry)) (now (file .entry)) (wanted cue stream) (lent (now (scratch .entry)) (now (pixels .entry)) (now (words .entry)) (now (canvas .entry))) (now (start .entry)) (now (numbers .entry)) r (lent (now (scratch .exit)) (now (pixels .exit)) (now (words .exit)) (now (canvas .exit))) (now (start .exit)) (now (numbers .exit)) ⌝ }

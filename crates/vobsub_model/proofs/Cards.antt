@@ -46,21 +46,24 @@ pub unit-painted : canvasStored (paletteOf (readings.small .lines)) (ok (reading
 unfolding canvasOf
 unit-painted = readings.small-canvas
 
--- what is shown of 3 by 4 at 1 2 with 5 codes
+-- what is shown of 3 by 4 at 1 2 with 5 codes, 2 of them clipped
 abbrev given : Shown
-given = record { start = pos 0; duration = none; start-delay = 0; stop-delay = 0; x1 = 1; y1 = 2; width = 3; height = 4; codes = 5 }
+given = record { start = pos 0; duration = none; start-delay = 0; stop-delay = 0; x1 = 1; y1 = 2; width = 3; height = 4; codes = 5; clipped = 2 }
 
-pub values-given : (shownGiven given .x1 ≡ 1) × (shownGiven given .y1 ≡ 2) × (shownGiven given .counts .codes ≡ 5)
+pub values-given :
+    (shownGiven given .x1 ≡ 1) × (shownGiven given .y1 ≡ 2) × (shownGiven given .counts .codes ≡ 5)
+    × (shownGiven given .counts .clipped ≡ 2)
 unfolding shownGiven
-values-given = (refl, refl, refl)
+values-given = (refl, refl, refl, refl)
 
 -- and of the record of an area of 3 by 3 there
 abbrev blocks : List Block
 blocks = record { place = 0; delay = 0; next = 0; commands = record { place = 4; order = area 1 3 2 4 } ∷ [] } ∷ []
 
 pub values-recorded :
-    (shownOf (cueAnswer (refuse no-cue)) (spuOf (told blocks) (record { codes = 5 })) .x1 ≡ 1)
-    × (shownOf (cueAnswer (refuse no-cue)) (spuOf (told blocks) (record { codes = 5 })) .y1 ≡ 2)
-    × (shownOf (cueAnswer (refuse no-cue)) (spuOf (told blocks) (record { codes = 5 })) .counts .codes ≡ 5)
+    (shownOf (cueAnswer (refuse no-cue)) (spuOf (told blocks) (record { codes = 5; clipped = 2 })) .x1 ≡ 1)
+    × (shownOf (cueAnswer (refuse no-cue)) (spuOf (told blocks) (record { codes = 5; clipped = 2 })) .y1 ≡ 2)
+    × (shownOf (cueAnswer (refuse no-cue)) (spuOf (told blocks) (record { codes = 5; clipped = 2 })) .counts .codes ≡ 5)
+    × (shownOf (cueAnswer (refuse no-cue)) (spuOf (told blocks) (record { codes = 5; clipped = 2 })) .counts .clipped ≡ 2)
 unfolding spuOf told commandsOf commandsIn firstDelay lastDelay lastNumbers stands allBands
-values-recorded = (refl, refl, refl)
+values-recorded = (refl, refl, refl, refl)

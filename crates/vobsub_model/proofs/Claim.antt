@@ -18,7 +18,8 @@ use Rattle.grammar.specs.Packets.{Form, IsForm, unitOf, top-stream}
 use Rattle.grammar.specs.Bands.{bandWords}
 use Rattle.grammar.specs.Record.{told, width, height}
 use Rattle.grammar.specs.Picture.{ListedUnit, IsUnit}
-use Rattle.grammar.specs.Reading.{Wanted, wantedId, Reading, IsReading, shown, wordsOf}
+use Rattle.grammar.specs.Pixels.{clippedIn}
+use Rattle.grammar.specs.Reading.{Wanted, wantedId, Reading, IsReading, toldBy, shown, wordsOf}
 use Rattle.control_model.specs.Chain.{controlAt}
 use Rattle.idx_model.specs.Text.{textOf}
 use Rattle.idx_model.proofs.Grammar.{text-iff, text-unique}
@@ -32,7 +33,9 @@ use Rattle.spu_model.proofs.Grammar.{unit-iff, unit-unique}
 use Rattle.vobsub_model.specs.Call.{Lent, Found, found, foundFor, canvasIn, reading, readingIn}
 use Rattle.vobsub_model.specs.Answers.{shownGiven, canvasAnswer, scratchOf, pixelsOf, bandsOf, paintedOf, CuePainted}
 use Rattle.vobsub_model.specs.Claim.{Gives, Room, Equal, Exactly}
+use Rattle.vobsub_model.specs.declared.Shown.{Shown}
 use Rattle.vobsub_model.specs.declared.CanvasAnswer.{CanvasAnswer}
+use Rattle.vobsub_model.specs.declared.CanvasAnswer.the-variants as canvas-answer
 
 -- a unit is found within lent lengths exactly where it is found and they are long enough
 canvas-sound : (u : List ℕ) (n m k : ℕ) (l : ListedUnit) → canvasIn u n m k ≡ ok l
@@ -169,6 +172,7 @@ module _ (text file : List ℕ) (q : Wanted) where
           width = refl;
           height = refl;
           codes = refl;
+          clipped = refl;
           in-scratch = d .in-scratch ∙ ap (λ (y : Res Found). sets (b .scratch) 0 (scratchOf y)) (a .1) ∙ ap (λ (y : Form). sets (b .scratch) 0 (formStored y)) f ∙ ap (sets (b .scratch) 0) (form-stored (x .form));
           in-pixels = d .in-pixels ∙ ap (λ (y : Res Reading). sets (b .pixels) 0 (pixelsOf y)) e;
           in-words = d .in-words ∙ ap (λ (y : Res Reading). sets (b .words) 0 (bandsOf y)) e;
@@ -197,3 +201,13 @@ module _ (text file : List ℕ) (q : Wanted) where
           equal x (w .1 ∙ ap ok (no-two (w .0) x (sound b (w .0) (w .1) .0) h));
       as-found = left (readingIn text file q b) refl;
     }
+
+    -- the number of clipped codes, in the grammar's words
+    pub clipped-codes : (s : Shown) → r ≡ canvas-answer.Paints s → (x : Reading) → IsReading text file q x
+        → s .counts .clipped ≡ clippedIn (width (toldBy x)) (x .unit .rows)
+    unfolding shown
+    clipped-codes s p x h =
+        let e = claim .same x h (subst Gives (sym p) tt) in
+        let z : canvas-answer.Paints s ≡ canvas-answer.Paints (e .says) = sym p ∙ e .paints in
+        let y : s ≡ e .says = cc z in
+        ap (λ (t : Shown). t .counts .clipped) y ∙ e .clipped

@@ -83,7 +83,7 @@ shownGiven g =
       y1 = g .y1;
       width = g .width;
       height = g .height;
-      counts = record { codes = g .codes };
+      counts = record { codes = g .codes; clipped = g .clipped };
     }
 
 abbrev pub canvasAnswer : Res Reading → CanvasAnswer

@@ -10,7 +10,7 @@ use Rattle.vobsub_model.specs.declared.Shown.{Shown}
 -- the numbers of a record in the order of include/vobsub.h
 abbrev pub spuNumbers : Spu → List ℕ
 spuNumbers s =
-    s .x1 ∷ s .y1 ∷ s .x2 ∷ s .y2 ∷ s .«palette_sel» ∷ s .alpha ∷ cond (s .started) 1 0 ∷ s .«start_delay_raw» ∷ cond (s .stopped) 1 0 ∷ s .«stop_delay_raw» ∷ cond (s .«forced_display») 1 0 ∷ s .«top_rle_off» ∷ s .«bot_rle_off» ∷ cond (s .«saw_chg_colcon») 1 0 ∷ s .«band_words» ∷ s .counts .codes ∷ []
+    s .x1 ∷ s .y1 ∷ s .x2 ∷ s .y2 ∷ s .«palette_sel» ∷ s .alpha ∷ cond (s .started) 1 0 ∷ s .«start_delay_raw» ∷ cond (s .stopped) 1 0 ∷ s .«stop_delay_raw» ∷ cond (s .«forced_display») 1 0 ∷ s .«top_rle_off» ∷ s .«bot_rle_off» ∷ cond (s .«saw_chg_colcon») 1 0 ∷ s .«band_words» ∷ s .counts .codes ∷ s .counts .clipped ∷ []
 
 -- size, whether there is a palette and the number of cues in the order of include/vobsub.h
 abbrev pub idxNumbers : IdxAnswer → List ℕ
@@ -20,7 +20,8 @@ idxNumbers a = a .width ∷ a .height ∷ cond (a .«has_palette») 1 0 ∷ a .c
 abbrev pub cueNumbers : CueAnswer → List ℕ
 cueNumbers a = a .position ∷ cond (a .«has_duration») 1 0 ∷ a .duration ∷ cond (a .«has_palette») 1 0 ∷ []
 
--- whether there is a duration, the duration, the delays, the place, the size and the number of codes in the order of include/vobsub.h
+-- whether there is a duration, the duration, the delays, the place, the size, the number of codes and that of clipped
+-- ones in the order of include/vobsub.h
 abbrev pub shownNumbers : Shown → List ℕ
 shownNumbers s =
-    cond (s .«has_duration») 1 0 ∷ s .duration ∷ s .«start_delay» ∷ s .«stop_delay» ∷ s .x1 ∷ s .y1 ∷ s .width ∷ s .height ∷ s .counts .codes ∷ []
+    cond (s .«has_duration») 1 0 ∷ s .duration ∷ s .«start_delay» ∷ s .«stop_delay» ∷ s .x1 ∷ s .y1 ∷ s .width ∷ s .height ∷ s .counts .codes ∷ s .counts .clipped ∷ []

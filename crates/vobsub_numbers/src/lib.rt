@@ -33,7 +33,7 @@ fn in_order(
     saw_chg_colcon: bool,
     band_words: usize,
     counts: Counts,
-) -> [usize; 16]
+) -> [usize; 17]
     ensures { λ r. ⌜ r ≡ spuNumbers (record { x1 = x1; y1 = y1; x2 = x2; y2 = y2; «palette_sel» = «palette_sel»; alpha = alpha; started = started; «start_delay_raw» = «start_delay_raw»; stopped = stopped; «stop_delay_raw» = «stop_delay_raw»; «forced_display» = «forced_display»; «top_rle_off» = «top_rle_off»; «bot_rle_off» = «bot_rle_off»; «saw_chg_colcon» = «saw_chg_colcon»; «band_words» = «band_words»; counts = counts }) ⌝ }
 {
     let starts = flag(started);
@@ -57,11 +57,12 @@ fn in_order(
         changed,
         band_words,
         counts.codes,
+        counts.clipped,
     ]
 }
 
 // Ruled out: first and last line in each other's place.
-pub fn numbers_of(s: Spu) -> [usize; 16]
+pub fn numbers_of(s: Spu) -> [usize; 17]
     ensures { λ r. ⌜ r ≡ spuNumbers s ⌝ }
 {
     let counts = s.counts;
@@ -103,10 +104,10 @@ pub fn cue_numbers_of(a: CueAnswer) -> [u64; 4]
     [a.position, lasts as u64, a.duration, coloured as u64]
 }
 
-// Whether another cue follows and the time up to it, the delays, the place, the size and the number of codes, in the order of
-// include/vobsub.h.
+// Whether another cue follows and the time up to it, the delays, the place, the size, the number of codes and that of
+// clipped ones, in the order of include/vobsub.h.
 // Ruled out: the place's column and line in each other's place.
-pub fn shown_numbers_of(s: Shown) -> [u64; 9]
+pub fn shown_numbers_of(s: Shown) -> [u64; 10]
     ensures { λ r. ⌜ r ≡ shownNumbers s ⌝ }
 {
     let lasts = flag(s.has_duration);
@@ -121,5 +122,6 @@ pub fn shown_numbers_of(s: Shown) -> [u64; 9]
         s.width as u64,
         s.height as u64,
         counts.codes as u64,
+        counts.clipped as u64,
     ]
 }

@@ -24,7 +24,7 @@ fn main() {
             Spot::Unit { unit, .. } => Ok(unit),
         };
         let shown = unit.and_then(|unit| {
-            let codes = oracle::codes_read(|| (oracle::counting::adapter::SIDE.unit)(&unit));
+            let codes = oracle::counted(|| (side.counting.unit)(&unit)).codes;
             (side.unit)(&unit).map(|d| (d, codes)).map_err(|words| number_of(&words))
         });
         match shown {

@@ -6,6 +6,7 @@
 // and the scratch; a canvas has its stream in its bytes), and four bytes with the sum over the answer.
 //
 // Only requests on which both sides agree (or that a rule covers) go into the list, so many for each answer.
+use oracle::CLIPPED;
 use oracle::class::{BYTE, Class, NUMBER, Request, START, Sum, WORD, World};
 use oracle::classes::{self, canvas};
 use oracle::port;
@@ -86,9 +87,10 @@ fn answer(kind: u8, bytes: &[u8], n: [usize; 4]) -> (u8, u64) {
             refusal
         }
         4 => {
-            let (mut map, mut codes) = (vec![BYTE; n[3]], NUMBER);
-            let refusal = port::field(bytes, n[0], n[1], n[2], &mut map, &mut codes);
+            let (mut map, mut codes, mut clipped) = (vec![BYTE; n[3]], NUMBER, NUMBER);
+            let refusal = port::field(bytes, n[0], n[1], n[2], &mut map, &mut codes, &mut clipped);
             sum.add(codes);
+            sum.add(clipped);
             sum.all(&map);
             refusal
         }
@@ -151,7 +153,7 @@ fn answer(kind: u8, bytes: &[u8], n: [usize; 4]) -> (u8, u64) {
 fn rows(class: &Class, world: &World, side: &Side) -> (usize, Vec<u8>) {
     let mut out = Vec::new();
     let mut met: BTreeMap<u8, usize> = BTreeMap::new();
-    let (mut count, mut copied) = (0, 0);
+    let (mut count, mut copied, mut clipped) = (0, 0, 0);
     for i in 0..60_000 {
         let q = (class.generate)(world, &mut Random::of(SEED, class.name, i));
         let n = numbers(class, side, &q);
@@ -185,6 +187,7 @@ fn rows(class: &Class, world: &World, side: &Side) -> (usize, Vec<u8>) {
         *seen += 1;
         count += 1;
         copied += o.copied.is_some() as usize;
+        clipped += o.met.contains(&CLIPPED) as usize;
         out.extend([kind(class), refusal]);
         for word in [q.bytes.len(), n[0], n[1], n[2], n[3]] {
             out.extend((word as u16).to_be_bytes());
@@ -193,7 +196,7 @@ fn rows(class: &Class, world: &World, side: &Side) -> (usize, Vec<u8>) {
         out.extend(&q.bytes);
     }
     let met: Vec<String> = met.iter().map(|(r, c)| format!("{r}: {c}")).collect();
-    println!("{}: {count} rows ({}), {copied} with other streams on the walk", class.name, met.join(", "));
+    println!("{}: {count} rows ({}), {copied} with other streams on the walk, {clipped} with a clipped code", class.name, met.join(", "));
     (count, out)
 }
 

@@ -253,7 +253,7 @@ fn layers(lent: &mut Lent) {
     let unit = one_nibble();
     let (field, width, height) = (&unit[4..65518], 4096, 62);
     let mut theirs = vec![0; width * height];
-    let mut codes = 0;
+    let (mut codes, mut clipped) = (0, 0);
     beside(
         "codes of one nibble, one field",
         &mut || {
@@ -262,7 +262,7 @@ fn layers(lent: &mut Lent) {
         },
         &mut || {
             lent.map[..width * height].fill(0);
-            assert_eq!(port::field(black_box(field), width, height, 0, &mut lent.map, &mut codes), 0);
+            assert_eq!(port::field(black_box(field), width, height, 0, &mut lent.map, &mut codes, &mut clipped), 0);
         },
     );
 }

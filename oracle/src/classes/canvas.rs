@@ -11,6 +11,7 @@ use crate::random::Random;
 use crate::side::{Painted, Seen, Side, number_of};
 use crate::titles::titles;
 use crate::walk::{ABOVE, ABSENT, PARTED, TOP_STREAM, stream_at, walk};
+use crate::{CLIPPED, Counts, EXACT, LONG_FILL};
 use std::cell::RefCell;
 
 pub const CLASS: Class = Class {
@@ -19,7 +20,7 @@ pub const CLASS: Class = Class {
     generate,
     compare,
     refusals: &[1, 2, 3, 4, 5, 6, 7, 8, 9, 11, 12, 13, 14, 15, 16, 17, 18, 19, 20, 21, 22, 23, 24, 25, 26, 32],
-    met: &[PARTED, ABSENT],
+    met: &[PARTED, ABSENT, CLIPPED, EXACT, LONG_FILL],
     accepted: true,
     dear: 4,
 };
@@ -523,7 +524,8 @@ fn compared(lent: &mut Lent, side: &Side, q: &Request) -> Outcome {
                     if o.panicked.is_some() {
                         painted.duration = lasts;
                     }
-                    found(&mut o, lent, q, &painted, scratch, stored, &unit);
+                    let counts = crate::counted(|| (side.counting.unit)(&unit));
+                    found(&mut o, lent, q, &painted, scratch, stored, counts);
                     o.met.extend((o.both && walk.parted).then_some(PARTED));
                 }
             }
@@ -575,7 +577,7 @@ fn declined(o: &mut Outcome, lent: &mut Lent, q: &Request, number: u8, scratch: 
 }
 
 // A unit that the original paints.
-fn found(o: &mut Outcome, lent: &mut Lent, q: &Request, p: &Painted, scratch: usize, stored: &[u8], unit: &[u8]) {
+fn found(o: &mut Outcome, lent: &mut Lent, q: &Request, p: &Painted, scratch: usize, stored: &[u8], counts: Counts) {
     let needs = [p.decoded.map.len(), p.decoded.words.len(), p.canvas.len()];
     let rooms = [scratch, by_mode(q.n[1], needs[0]), by_mode(q.n[2], needs[1]), by_mode(q.n[3], needs[2])];
     let a = lent.ask(q, rooms);
@@ -589,7 +591,6 @@ fn found(o: &mut Outcome, lent: &mut Lent, q: &Request, p: &Painted, scratch: us
     let start = p.start.expect("a start");
     o.must(p.time == p.start, || "the original's frame has another time than its packet".into());
     o.must(a.start == start || a.refusal != 0, || format!("the start {start}; the port says {}", a.start));
-    let codes = crate::codes_read(|| (crate::counting::adapter::SIDE.unit)(unit));
     let of = |place: usize| p.decoded.numbers[place] as u64;
     let asked = [
         p.duration.is_some() as u64,
@@ -600,8 +601,10 @@ fn found(o: &mut Outcome, lent: &mut Lent, q: &Request, p: &Painted, scratch: us
         of(1),
         p.stride as u64 / 4,
         (p.canvas.len() / p.stride) as u64,
-        codes as u64,
+        counts.codes as u64,
+        counts.clipped as u64,
     ];
     o.must(a.numbers == asked || a.refusal != 0, || format!("the numbers {asked:?}; the port says {:?}", a.numbers));
+    o.met.extend(counts.met().filter(|_| o.both));
     lent.left(o, rooms, Fronts { scratch: stored, pixels: &p.decoded.map, words: &p.decoded.words, canvas: &p.canvas });
 }

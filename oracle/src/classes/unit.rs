@@ -5,9 +5,10 @@ use crate::classes::{bands, field};
 use crate::port;
 use crate::random::Random;
 use crate::side::{Decoded, Side, number_of};
+use crate::{CLIPPED, Counts, EXACT, LONG_FILL};
 use std::cell::RefCell;
 
-pub const CLASS: Class = Class { name: "units", fixed, generate, compare, refusals: &[15, 16, 17, 18, 19, 20, 21, 22, 23, 25, 26], met: &[], accepted: true, dear: 1 };
+pub const CLASS: Class = Class { name: "units", fixed, generate, compare, refusals: &[15, 16, 17, 18, 19, 20, 21, 22, 23, 25, 26], met: &[CLIPPED, EXACT, LONG_FILL], accepted: true, dear: 1 };
 
 fn fixed(world: &World, each: &mut dyn FnMut(Request)) {
     for unit in &world.units {
@@ -311,25 +312,28 @@ fn compared(lent: &mut Lent, side: &Side, q: &Request) -> Outcome {
                 o.must(a.numbers == [NUMBER; port::NUMBERS], || "the record is written on a refusal".into());
                 o.must(lent.untouched(0..map, 0..words), || "map or words are written on a refusal".into());
             } else {
-                accepted(&mut o, lent, &a, &d, q, map, words);
+                let counts = crate::counted(|| (side.counting.unit)(&q.bytes));
+                accepted(&mut o, lent, &a, &d, counts, map, words);
             }
         }
     }
     o
 }
 
-fn accepted(o: &mut Outcome, lent: &mut Lent, a: &Answer, d: &Decoded, q: &Request, map: usize, words: usize) {
+fn accepted(o: &mut Outcome, lent: &mut Lent, a: &Answer, d: &Decoded, counts: Counts, map: usize, words: usize) {
     o.both = a.refusal == 0;
     o.must(a.refusal == 0, || format!("the original accepts; the port says {}", a.refusal));
     let mut numbers = a.numbers;
-    let codes = crate::codes_read(|| (crate::counting::adapter::SIDE.unit)(&q.bytes));
-    o.must(numbers[port::CODES] == codes, || format!("{codes} codes; the port says {}", a.numbers[port::CODES]));
+    for (place, count, what) in [(port::CODES, counts.codes, "codes"), (port::CLIPPED, counts.clipped, "clipped codes")] {
+        o.must(numbers[place] == count, || format!("{count} {what}; the port says {}", a.numbers[place]));
+        numbers[place] = 0;
+    }
+    o.met.extend(counts.met().filter(|_| o.both));
     // added values: checked as far as the original has something that goes with them
     for (said, delay) in [(port::STARTED, port::START), (port::STOPPED, port::STOP)] {
         o.must(numbers[said] < 2 && (numbers[said] == 1 || numbers[delay] == 0), || format!("{} and a delay of {}", numbers[said], numbers[delay]));
         numbers[said] = 0;
     }
-    numbers[port::CODES] = 0;
     o.must(numbers == d.numbers, || format!("the record {:?}; the port says {:?}", d.numbers, a.numbers));
     o.must((d.width, d.height) == (numbers[2] + 1 - numbers[0], numbers[3] + 1 - numbers[1]), || "width and height".into());
     o.must(lent.map[..d.map.len()] == d.map, || "the map".into());

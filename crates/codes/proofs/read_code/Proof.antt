@@ -1,6 +1,7 @@
 -- `codes::read_code` meets its contract: with the lengths tried so far too short, the code found from the next length on is the code. Assumes nothing.
 use Prim.Native.Nat.{ℕ, _+_, _*_, _-_, _^_, _≤_, _<_}
 use mathlib.Core.Path.{_≡_, refl, sym, ap, _∙_}
+use mathlib.Core.Bool.{Bool}
 use mathlib.Core.List.{List}
 use native.Mathlib.Omega.{arith}
 use borrow.Author.Needs.{needs}
@@ -8,11 +9,12 @@ use lib.ListN.{length}
 use denote.Ref.{now}
 use Rattle.outcome.specs.Outcome.{ok}
 use Rattle.grammar.specs.Bytes.{nibble, nibbles}
+use Rattle.grammar.specs.Rows.{code, overshoots}
 use Rattle.rle_model.specs.declared.CodeAnswer.the-variants.{Got, Refused}
 use Rattle.rle_model.specs.Codes.{codeFrom, codeAt, made}
 use Rattle.rle_model.specs.CodeAnswers.{codeAnswer}
 use Rattle.rle_model.proofs.Grammar.{nibble-lt}
-use Rattle.rle_model.proofs.CodeLoops.{nibbles-step, pow-step, pow-most, code-short, code-hit, code-last, code-next}
+use Rattle.rle_model.proofs.CodeLoops.{nibbles-step, pow-step, pow-most, code-short, code-hit, code-last, code-next, hit-clips, last-clips}
 use Rattle.rle_model.proofs.Nibbles.{is-nibble, ran-out}
 use Rattle.codes.proofs.read_code.Statement.{statement}
 use Rattle.codes.proofs.read_code.Tie as tie
@@ -26,15 +28,19 @@ pub record Inv (field : List ℕ) (pos value size least : ℕ) : Type 0 where
   pub small : value < least
   pub goes : codeFrom field (length field) pos (4 - (size + 1)) (size + 1) ≡ codeAt field (length field) pos
 
-got : (f : List ℕ) (at k v : ℕ) → codeFrom f (length f) at (4 - k) k ≡ codeAt f (length f) at → codeFrom f (length f) at (4 - k) k ≡ ok (made f at k)
-    → v ≡ nibbles f at k → Got k v (record { pos = at + k }) ≡ codeAnswer (codeAt f (length f) at)
-got f at k v a b e = ap (λ (x : ℕ). Got k x (record { pos = at + k })) e ∙ ap codeAnswer (sym b ∙ a)
+got : (f : List ℕ) (left at k v : ℕ) (c : Bool) → codeFrom f (length f) at (4 - k) k ≡ codeAt f (length f) at
+    → codeFrom f (length f) at (4 - k) k ≡ ok (made f at k) → v ≡ nibbles f at k → c ≡ overshoots left (code at k v)
+    → Got k v c (record { pos = at + k }) ≡ codeAnswer left (codeAt f (length f) at)
+got f left at k v c a b e o =
+    ap (λ (d : Bool). Got k v d (record { pos = at + k })) o
+    ∙ ap (λ (x : ℕ). Got k x (overshoots left (code at k x)) (record { pos = at + k })) e
+    ∙ ap (codeAnswer left) (sym b ∙ a)
 
 abbrev Inv-loop : tie.InvT-loop
-Inv-loop field at value₀ size₀ least₀ value size least = Inv field at value size least
+Inv-loop field left at value₀ size₀ least₀ value size least = Inv field at value size least
 
 abbrev μ-loop : tie.MeasureT-loop
-μ-loop field at value₀ size₀ least₀ value size least = 4 - size
+μ-loop field left at value₀ size₀ least₀ value size least = 4 - size
 
 loop-holds : tie.Need-loop-holds Inv-loop μ-loop
 unfolding codeAt nibbles
@@ -54,7 +60,7 @@ returns c =
     let i = c .before .before .before .before .before .loop in
     let a = c .before .before .before .before .before .before .before .args in
     let o = ran-out (now (a .field)) (a .c .pos + i .size) _ (sym (c .before .number .given .1) ∙ c .before .before .before .read-through .ensures) in
-    ap Refused (o .1) ∙ ap codeAnswer (sym (code-short _ _ _ _ (omega (arith, o .0))) ∙ i .inv .goes)
+    ap Refused (o .1) ∙ ap (codeAnswer _) (sym (code-short _ _ _ _ (omega (arith, o .0))) ∙ i .inv .goes)
 
 enum-known-n : tie.Need-enum-known-n Inv-loop μ-loop
 enum-known-n c = search needs
@@ -91,14 +97,19 @@ returns-2 c =
     let t = c .before in
     let i = turn t .loop in
     let n = nibbles-step (now (start t .args .field)) (start t .args .c .pos) (i .size) in
-    got _ _ _ _ (i .inv .goes) (code-hit _ _ _ _ (omega (arith, read t .0)) (omega (arith, n, pow-step (i .size), read t .1))) (omega (arith, n, read t .1))
+    got _ _ _ _ _ _ (i .inv .goes)
+    (code-hit _ _ _ _ (omega (arith, read t .0)) (omega (arith, n, pow-step (i .size), read t .1)))
+    (omega (arith, n, read t .1))
+    (sym (hit-clips _ _ (i .size + 1) _ (omega (arith, i .inv .few)) (omega (arith, pow-step (i .size)))))
 
 returns-3 : tie.Need-returns-3 Inv-loop μ-loop
 returns-3 c =
     let t = c .before .before in
     let i = turn t .loop in
     let n = nibbles-step (now (start t .args .field)) (start t .args .c .pos) (i .size) in
-    got _ _ _ _ (i .inv .goes) (code-last _ _ _ _ (c .if2 .taken) (omega (arith, read t .0))) (omega (arith, n, read t .1))
+    got _ _ _ _ _ _ (i .inv .goes) (code-last _ _ _ _ (c .if2 .taken) (omega (arith, read t .0)))
+    (omega (arith, n, read t .1))
+    (sym (last-clips _ _ (i .size + 1) _ (c .if2 .taken) (omega (arith, pow-step (i .size)))))
 
 loop-less : tie.Need-loop-less Inv-loop μ-loop
 loop-less c = omega arith

@@ -14,7 +14,8 @@ enum-known-counts c = search needs
 
 measure-more-requires : tie.Need-measure-more-requires
 measure-more-requires c κs =
-    omega (arith, c .before .before .before .before .before .before .pre, field-most _ _ _ _ _ _ (sym (c .before .counts .given .1) ∙ c .before .before .before .measure-field .ensures))
+    let m = field-most _ _ _ _ _ _ (sym (c .before .counts .given .1) ∙ c .before .before .before .measure-field .ensures) in
+    (_, m, c .before .before .before .before .before .before .pre)
 
 enum-known-number : tie.Need-enum-known-number
 enum-known-number c = search needs

@@ -1,7 +1,9 @@
--- `fields::measure_more` meets its contract: the sum fits, since a field counts no more codes than pixels. Assumes nothing.
+-- `fields::measure_more` meets its contract: the sum fits, since a field counts no more than its pixels.
+-- Assumes nothing.
 use native.Mathlib.Omega.{arith}
 use mathlib.Core.Path.{sym, _∙_}
 use borrow.Author.Needs.{needs}
+use Rattle.rle_model.proofs.Loops.{at-most-le, at-most-plus}
 use Rattle.rle_model.proofs.Both.{field-most, more-rows, more-refused}
 use Rattle.fields.proofs.measure_more.Statement.{statement}
 use Rattle.fields.proofs.measure_more.Tie as tie
@@ -14,7 +16,9 @@ enum-known-more c = search needs
 
 plus-counts-requires : tie.Need-plus-counts-requires
 plus-counts-requires c κs =
-    omega (arith, c .before .before .before .before .before .pre, field-most _ _ _ _ _ _ (sym (c .before .more .given .1) ∙ c .before .before .before .measure-field .ensures))
+    let p = c .before .before .before .before .before .pre in
+    let m = field-most _ _ _ _ _ _ (sym (c .before .more .given .1) ∙ c .before .before .before .measure-field .ensures) in
+    at-most-le _ _ _ (omega (arith, p .2)) (at-most-plus _ _ _ _ (p .1) m)
 
 enum-known-number : tie.Need-enum-known-number
 enum-known-number c = search needs

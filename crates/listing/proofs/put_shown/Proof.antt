@@ -1,4 +1,5 @@
 -- `listing::put_shown` meets its contract: times, area and delays. Assumes nothing.
+use native.Mathlib.Omega.{arith}
 use borrow.Author.Needs.{needs}
 use Rattle.listing_model.proofs.Laws.{put-put, put-as}
 use Rattle.listing_model.specs.Lines.{shownLine}
@@ -51,7 +52,7 @@ cast-put-delays : tie.Need-cast-put-delays
 cast-put-delays c = search needs
 
 cast-put-delays-2 : tie.Need-cast-put-delays-2
-cast-put-delays-2 c = search needs
+cast-put-delays-2 c = omega (arith, c .struct-known8 .given .1 .1 .1 .1 .1 .1 .1 .1 .1 .0)
 
 put-delays-requires : tie.Need-put-delays-requires
 put-delays-requires c κs = search needs

@@ -5,10 +5,10 @@ use Rattle.replay.proofs.mixed_numbers.Statement.{statement}
 use Rattle.replay.proofs.mixed_numbers.Tie as tie
 
 abbrev Inv-loop : tie.InvT-loop
-Inv-loop sum s t₀ i₀ t i = i ≤ 16
+Inv-loop sum s t₀ i₀ t i = i ≤ 17
 
 abbrev μ-loop : tie.MeasureT-loop
-μ-loop sum s t₀ i₀ t i = 16 - i
+μ-loop sum s t₀ i₀ t i = 17 - i
 
 loop-holds : tie.Need-loop-holds Inv-loop μ-loop
 loop-holds c = search needs

@@ -49,7 +49,7 @@ same-length c = c .before .before .before .before .loop .inv .long
 
 returns : tie.Need-returns Inv-loop μ-loop
 returns c =
-    let n = row-short _ _ _ _ (c .before .before .before .loop-test .taken) _ (uncoded _ _ _ _ (sym (c .enum-told .given .1) ∙ c .before .before .read-code .ensures)) in
+    let n = row-short _ _ _ _ (c .before .before .before .loop-test .taken) _ (uncoded _ _ _ _ _ (sym (c .enum-told .given .1) ∙ c .before .before .read-code .ensures)) in
     absurd (subst IsOk n (c .before .before .before .before .loop .inv .there))
 
 painted-requires : tie.Need-painted-requires Inv-loop μ-loop
@@ -74,8 +74,8 @@ abbrev coded-at : tie.After-slice-known2 Inv-loop μ-loop → tie.After-size Inv
 coded-at c = c .before .before .before .before .before .before
 
 got : (c : tie.After-slice-known2 Inv-loop μ-loop) → Coded (now (start c .args .field)) (length (now (start c .args .field))) (turn c .loop .pos)
-    (coded-at c .size .given .0 .0) (coded-at c .size .given .0 .1 .0) (coded-at c .size .given .0 .1 .1 .0)
-got c = coded _ _ _ _ _ _ (sym (coded-at c .size .given .1) ∙ read c .read-code .ensures)
+    (coded-at c .size .given .0 .0) (coded-at c .size .given .0 .1 .0) (coded-at c .size .given .0 .1 .1 .1 .0)
+got c = coded _ _ _ _ _ _ _ _ (sym (coded-at c .size .given .1) ∙ read c .read-code .ensures)
 
 sub-left : tie.Need-sub-left Inv-loop μ-loop
 sub-left c = omega (arith, paints-le (turn c .loop .left) (code 0 (coded-at c .size .given .0 .0) (coded-at c .size .given .0 .1 .0)), c .before .before .before .before .painted .ensures 0)

@@ -37,10 +37,10 @@ returns c =
 
 loop-holds : tie.Need-loop-holds Inv-loop μ-loop
 loop-holds c =
-    record { wide = omega arith; few = omega arith; long = refl; goes = field-whole _; keeps = refl }
+    record { wide = omega arith; few = (omega arith, omega arith); long = refl; goes = field-whole _; keeps = refl }
 
 measure-row-requires : tie.Need-measure-row-requires Inv-loop μ-loop
-measure-row-requires c κs = c .before .before .loop .inv .few
+measure-row-requires c κs = c .before .before .loop .inv .few .0
 
 enum-known-more : tie.Need-enum-known-more Inv-loop μ-loop
 enum-known-more c = search needs

@@ -5,16 +5,23 @@ use mathlib.Core.List.{List}
 use borrow.Author.Needs.{needs}
 use Rattle.rle_model.specs.Answers.{Decoded}
 use Rattle.rle_model.specs.declared.FieldAnswer.{FieldAnswer}
-use Rattle.vobsub_c.specs.Answers.{fieldRefusal, fieldCodes, FieldDecoded}
+use Rattle.vobsub_c.specs.Answers.{fieldRefusal, fieldCodes, fieldClipped, FieldDecoded}
 use Rattle.vobsub_c.proofs.Returned.{field-returned}
 use Rattle.vobsub_c.proofs.vobsub_decode_rle_field.Statement.{statement}
 use Rattle.vobsub_c.proofs.vobsub_decode_rle_field.Tie as tie
 
 -- what is left where the layer's answer is known
-given : (f : List ℕ) (w h s : ℕ) (px px′ : List ℕ) (n : ℕ) (a b : FieldAnswer) → a ≡ b → Decoded f w h s px a px′ → FieldDecoded f w h s px n (fieldRefusal b) px′ (fieldCodes b n)
-given f w h s px px′ n a b e q =
+given : (f : List ℕ) (w h s : ℕ) (px px′ : List ℕ) (n m : ℕ) (a b : FieldAnswer) → a ≡ b → Decoded f w h s px a px′
+    → FieldDecoded f w h s px n m (fieldRefusal b) px′ (fieldCodes b n) (fieldClipped b m)
+given f w h s px px′ n m a b e q =
     let y = sym e ∙ q .answer in
-    record { refusal = ap fieldRefusal y; returned = field-returned _ _ _ _ _ _ (ap fieldRefusal y); codes = ap (λ (o : FieldAnswer). fieldCodes o n) y; stores = q .pixels }
+    record {
+      refusal = ap fieldRefusal y;
+      returned = field-returned _ _ _ _ _ _ (ap fieldRefusal y);
+      counts = ap (λ (o : FieldAnswer). fieldCodes o n) y;
+      clips = ap (λ (o : FieldAnswer). fieldClipped o m) y;
+      stores = q .pixels;
+    }
 
 decode-rle-field-requires : tie.Need-decode-rle-field-requires
 decode-rle-field-requires c κs = search needs
@@ -29,13 +36,13 @@ same-length : tie.Need-same-length
 same-length c = search needs
 
 returns : tie.Need-returns
-returns c = given _ _ _ _ _ _ _ _ _ (c .before .counts .given .1) (c .before .before .before .before .before .decode-rle-field .ensures .0)
+returns c = given _ _ _ _ _ _ _ _ _ _ (c .before .counts .given .1) (c .before .before .before .before .before .decode-rle-field .ensures .0)
 
 same-length-2 : tie.Need-same-length-2
 same-length-2 c = search needs
 
 returns-2 : tie.Need-returns-2
-returns-2 c = given _ _ _ _ _ _ _ _ _ (c .before .number .given .1) (c .before .before .before .before .before .decode-rle-field .ensures .0)
+returns-2 c = given _ _ _ _ _ _ _ _ _ _ (c .before .number .given .1) (c .before .before .before .before .before .decode-rle-field .ensures .0)
 
 pub vobsub-decode-rle-field-spec : {M : Type 1} → statement M
 vobsub-decode-rle-field-spec =

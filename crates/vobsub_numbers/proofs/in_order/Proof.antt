@@ -1,13 +1,16 @@
 -- `vobsub_numbers::in_order` meets its contract: each number at its place. Assumes nothing.
 use Prim.Native.Nat.{ℕ}
 use mathlib.Core.Path.{_≡_}
-use mathlib.Core.List.{List, [], _∷_}
+use mathlib.Core.List.{List, _∷_}
 use borrow.Author.Needs.{needs}
 use Rattle.vobsub_numbers.proofs.in_order.Statement.{statement}
 use Rattle.vobsub_numbers.proofs.in_order.Tie as tie
 
-ordered : (a b c d e f g h i j v w p q r s p′ q′ r′ s′ : ℕ) → p ≡ p′ → q ≡ q′ → r ≡ r′ → s ≡ s′ → _≡_ {A = List ℕ} (a ∷ b ∷ c ∷ d ∷ e ∷ f ∷ p ∷ g ∷ q ∷ h ∷ r ∷ i ∷ j ∷ s ∷ v ∷ w ∷ []) (a ∷ b ∷ c ∷ d ∷ e ∷ f ∷ p′ ∷ g ∷ q′ ∷ h ∷ r′ ∷ i ∷ j ∷ s′ ∷ v ∷ w ∷ [])
-ordered a b c d e f g h i j v w p q r s p′ q′ r′ s′ x y z t = rw (x, y, z, t)
+-- the four flags stand among the others
+ordered : (a b c d e f g h i j : ℕ) (l : List ℕ) (p q r s p′ q′ r′ s′ : ℕ) → p ≡ p′ → q ≡ q′ → r ≡ r′ → s ≡ s′
+    → a ∷ b ∷ c ∷ d ∷ e ∷ f ∷ p ∷ g ∷ q ∷ h ∷ r ∷ i ∷ j ∷ s ∷ l
+    ≡ a ∷ b ∷ c ∷ d ∷ e ∷ f ∷ p′ ∷ g ∷ q′ ∷ h ∷ r′ ∷ i ∷ j ∷ s′ ∷ l
+ordered a b c d e f g h i j l p q r s p′ q′ r′ s′ x y z t = rw (x, y, z, t)
 
 flag-requires : tie.Need-flag-requires
 flag-requires c κs = search needs
@@ -23,7 +26,7 @@ flag-requires-4 c κs = search needs
 
 returns : tie.Need-returns
 returns c =
-    ordered _ _ _ _ _ _ _ _ _ _ _ _ _ _ _ _ _ _ _ _ (c .before .before .before .flag .ensures) (c .before .before .flag2 .ensures) (c .before .flag3 .ensures) (c .flag4 .ensures)
+    ordered _ _ _ _ _ _ _ _ _ _ _ _ _ _ _ _ _ _ _ (c .before .before .before .flag .ensures) (c .before .before .flag2 .ensures) (c .before .flag3 .ensures) (c .flag4 .ensures)
 
 pub in-order-spec : {M : Type 1} → statement M
 in-order-spec = tie.close (tie.spec flag-requires flag-requires-2 flag-requires-3 flag-requires-4 returns)
