@@ -124,7 +124,7 @@ abbrev pub fieldsOf : Spu → List ℕ
 fieldsOf s =
     s .x1 ∷ s .y1 ∷ s .x2 ∷ s .y2 ∷ s .«palette_sel» ∷ s .alpha ∷ cond (s .started) 1 0 ∷ s .«start_delay_raw» ∷ cond (s .stopped) 1 0 ∷ s .«stop_delay_raw»
     ∷ cond (s .«forced_display») 1 0 ∷ s .«top_rle_off» ∷ s .«bot_rle_off» ∷ cond (s .«saw_chg_colcon») 1 0
-    ∷ s .«band_words» ∷ s .counts .codes ∷ s .counts .clipped ∷ []
+    ∷ s .«band_words» ∷ s .codes ∷ s .clipped ∷ []
 
 -- a signed number: 1 where it is below 0, and how far it is from 0
 abbrev pub whole : ℤ → List ℕ

@@ -75,7 +75,7 @@ whole-files text file q b r b′ d = vobsub-proof.claim text file q b r b′ d
 -- what is left of their row; a reading has no more of them than lines.
 pub clipped-codes : (text file : List ℕ) (q : Wanted) (b : Lent) (r : CanvasAnswer) (b′ : Lent) → CuePainted text file q b r b′
     → (s : Shown) → r ≡ canvas-answer.Paints s → (x : Reading) → IsReading text file q x
-    → s .counts .clipped ≡ clippedIn (width (toldBy x)) (x .unit .rows)
+    → s .clipped ≡ clippedIn (width (toldBy x)) (x .unit .rows)
 clipped-codes text file q b r b′ d s p x h = vobsub-proof.clipped-codes text file q b r b′ d s p x h
 
 pub few-clipped : (text file : List ℕ) (q : Wanted) (x : Reading) → IsReading text file q x

@@ -10,7 +10,6 @@ use outcome::NO_AREA;
 use outcome::NO_HEAD;
 use outcome::SMALL_SIZE;
 use outcome::UNKNOWN_COMMAND;
-use rle_model::Counts;
 ghost use mathlib.Core.Path.{_≡_};
 ghost use Prim.Native.Nat.{ℕ, _≤_, _<_, _+_, _*_, _/_, _%_, _^_};
 ghost use lib.ListN.{length};
@@ -282,10 +281,6 @@ fn read_chain(unit: &[u8], end: usize, from: usize) -> ControlAnswer
     requires { ⌜ (end ≤ length (now unit)) × (end < 65536) × (from < 65536) × (length (now unit) < 2 ^ 63) ⌝ }
     ensures { λ r. ⌜ r ≡ chainAnswer untold (blocksAt (now (unit .entry)) end (some from)) ⌝ }
 {
-    let counts = Counts {
-        codes: 0,
-        clipped: 0,
-    };
     let mut told = Spu {
         x1: 0,
         y1: 0,
@@ -302,7 +297,8 @@ fn read_chain(unit: &[u8], end: usize, from: usize) -> ControlAnswer
         bot_rle_off: 0,
         saw_chg_colcon: false,
         band_words: 0,
-        counts,
+        codes: 0,
+        clipped: 0,
     };
     let mut pos = from;
     while pos + 4 <= end {

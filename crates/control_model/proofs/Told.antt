@@ -22,28 +22,28 @@ use Rattle.rle_model.specs.Answers.{nothing}
 -- ---- A record with other values
 
 abbrev pub startSet : Bool → ℕ → Spu → Spu
-startSet b d s = record { x1 = s .x1; y1 = s .y1; x2 = s .x2; y2 = s .y2; «palette_sel» = s .«palette_sel»; alpha = s .alpha; started = b; «start_delay_raw» = d; stopped = s .stopped; «stop_delay_raw» = s .«stop_delay_raw»; «forced_display» = s .«forced_display»; «top_rle_off» = s .«top_rle_off»; «bot_rle_off» = s .«bot_rle_off»; «saw_chg_colcon» = s .«saw_chg_colcon»; «band_words» = s .«band_words»; counts = s .counts }
+startSet b d s = record { x1 = s .x1; y1 = s .y1; x2 = s .x2; y2 = s .y2; «palette_sel» = s .«palette_sel»; alpha = s .alpha; started = b; «start_delay_raw» = d; stopped = s .stopped; «stop_delay_raw» = s .«stop_delay_raw»; «forced_display» = s .«forced_display»; «top_rle_off» = s .«top_rle_off»; «bot_rle_off» = s .«bot_rle_off»; «saw_chg_colcon» = s .«saw_chg_colcon»; «band_words» = s .«band_words»; codes = s .codes; clipped = s .clipped }
 
 abbrev pub forcedSet : Spu → Spu
-forcedSet s = record { x1 = s .x1; y1 = s .y1; x2 = s .x2; y2 = s .y2; «palette_sel» = s .«palette_sel»; alpha = s .alpha; started = s .started; «start_delay_raw» = s .«start_delay_raw»; stopped = s .stopped; «stop_delay_raw» = s .«stop_delay_raw»; «forced_display» = true; «top_rle_off» = s .«top_rle_off»; «bot_rle_off» = s .«bot_rle_off»; «saw_chg_colcon» = s .«saw_chg_colcon»; «band_words» = s .«band_words»; counts = s .counts }
+forcedSet s = record { x1 = s .x1; y1 = s .y1; x2 = s .x2; y2 = s .y2; «palette_sel» = s .«palette_sel»; alpha = s .alpha; started = s .started; «start_delay_raw» = s .«start_delay_raw»; stopped = s .stopped; «stop_delay_raw» = s .«stop_delay_raw»; «forced_display» = true; «top_rle_off» = s .«top_rle_off»; «bot_rle_off» = s .«bot_rle_off»; «saw_chg_colcon» = s .«saw_chg_colcon»; «band_words» = s .«band_words»; codes = s .codes; clipped = s .clipped }
 
 abbrev pub stopSet : ℕ → Spu → Spu
-stopSet d s = record { x1 = s .x1; y1 = s .y1; x2 = s .x2; y2 = s .y2; «palette_sel» = s .«palette_sel»; alpha = s .alpha; started = s .started; «start_delay_raw» = s .«start_delay_raw»; stopped = true; «stop_delay_raw» = d; «forced_display» = s .«forced_display»; «top_rle_off» = s .«top_rle_off»; «bot_rle_off» = s .«bot_rle_off»; «saw_chg_colcon» = s .«saw_chg_colcon»; «band_words» = s .«band_words»; counts = s .counts }
+stopSet d s = record { x1 = s .x1; y1 = s .y1; x2 = s .x2; y2 = s .y2; «palette_sel» = s .«palette_sel»; alpha = s .alpha; started = s .started; «start_delay_raw» = s .«start_delay_raw»; stopped = true; «stop_delay_raw» = d; «forced_display» = s .«forced_display»; «top_rle_off» = s .«top_rle_off»; «bot_rle_off» = s .«bot_rle_off»; «saw_chg_colcon» = s .«saw_chg_colcon»; «band_words» = s .«band_words»; codes = s .codes; clipped = s .clipped }
 
 abbrev pub selectorsSet : ℕ → Spu → Spu
-selectorsSet w s = record { x1 = s .x1; y1 = s .y1; x2 = s .x2; y2 = s .y2; «palette_sel» = w; alpha = s .alpha; started = s .started; «start_delay_raw» = s .«start_delay_raw»; stopped = s .stopped; «stop_delay_raw» = s .«stop_delay_raw»; «forced_display» = s .«forced_display»; «top_rle_off» = s .«top_rle_off»; «bot_rle_off» = s .«bot_rle_off»; «saw_chg_colcon» = s .«saw_chg_colcon»; «band_words» = s .«band_words»; counts = s .counts }
+selectorsSet w s = record { x1 = s .x1; y1 = s .y1; x2 = s .x2; y2 = s .y2; «palette_sel» = w; alpha = s .alpha; started = s .started; «start_delay_raw» = s .«start_delay_raw»; stopped = s .stopped; «stop_delay_raw» = s .«stop_delay_raw»; «forced_display» = s .«forced_display»; «top_rle_off» = s .«top_rle_off»; «bot_rle_off» = s .«bot_rle_off»; «saw_chg_colcon» = s .«saw_chg_colcon»; «band_words» = s .«band_words»; codes = s .codes; clipped = s .clipped }
 
 abbrev pub alphasSet : ℕ → Spu → Spu
-alphasSet w s = record { x1 = s .x1; y1 = s .y1; x2 = s .x2; y2 = s .y2; «palette_sel» = s .«palette_sel»; alpha = w; started = s .started; «start_delay_raw» = s .«start_delay_raw»; stopped = s .stopped; «stop_delay_raw» = s .«stop_delay_raw»; «forced_display» = s .«forced_display»; «top_rle_off» = s .«top_rle_off»; «bot_rle_off» = s .«bot_rle_off»; «saw_chg_colcon» = s .«saw_chg_colcon»; «band_words» = s .«band_words»; counts = s .counts }
+alphasSet w s = record { x1 = s .x1; y1 = s .y1; x2 = s .x2; y2 = s .y2; «palette_sel» = s .«palette_sel»; alpha = w; started = s .started; «start_delay_raw» = s .«start_delay_raw»; stopped = s .stopped; «stop_delay_raw» = s .«stop_delay_raw»; «forced_display» = s .«forced_display»; «top_rle_off» = s .«top_rle_off»; «bot_rle_off» = s .«bot_rle_off»; «saw_chg_colcon» = s .«saw_chg_colcon»; «band_words» = s .«band_words»; codes = s .codes; clipped = s .clipped }
 
 abbrev pub areaSet : ℕ → ℕ → ℕ → ℕ → Spu → Spu
-areaSet a b c e s = record { x1 = a; y1 = c; x2 = b; y2 = e; «palette_sel» = s .«palette_sel»; alpha = s .alpha; started = s .started; «start_delay_raw» = s .«start_delay_raw»; stopped = s .stopped; «stop_delay_raw» = s .«stop_delay_raw»; «forced_display» = s .«forced_display»; «top_rle_off» = s .«top_rle_off»; «bot_rle_off» = s .«bot_rle_off»; «saw_chg_colcon» = s .«saw_chg_colcon»; «band_words» = s .«band_words»; counts = s .counts }
+areaSet a b c e s = record { x1 = a; y1 = c; x2 = b; y2 = e; «palette_sel» = s .«palette_sel»; alpha = s .alpha; started = s .started; «start_delay_raw» = s .«start_delay_raw»; stopped = s .stopped; «stop_delay_raw» = s .«stop_delay_raw»; «forced_display» = s .«forced_display»; «top_rle_off» = s .«top_rle_off»; «bot_rle_off» = s .«bot_rle_off»; «saw_chg_colcon» = s .«saw_chg_colcon»; «band_words» = s .«band_words»; codes = s .codes; clipped = s .clipped }
 
 abbrev pub offsetsSet : ℕ → ℕ → Spu → Spu
-offsetsSet a b s = record { x1 = s .x1; y1 = s .y1; x2 = s .x2; y2 = s .y2; «palette_sel» = s .«palette_sel»; alpha = s .alpha; started = s .started; «start_delay_raw» = s .«start_delay_raw»; stopped = s .stopped; «stop_delay_raw» = s .«stop_delay_raw»; «forced_display» = s .«forced_display»; «top_rle_off» = a; «bot_rle_off» = b; «saw_chg_colcon» = s .«saw_chg_colcon»; «band_words» = s .«band_words»; counts = s .counts }
+offsetsSet a b s = record { x1 = s .x1; y1 = s .y1; x2 = s .x2; y2 = s .y2; «palette_sel» = s .«palette_sel»; alpha = s .alpha; started = s .started; «start_delay_raw» = s .«start_delay_raw»; stopped = s .stopped; «stop_delay_raw» = s .«stop_delay_raw»; «forced_display» = s .«forced_display»; «top_rle_off» = a; «bot_rle_off» = b; «saw_chg_colcon» = s .«saw_chg_colcon»; «band_words» = s .«band_words»; codes = s .codes; clipped = s .clipped }
 
 abbrev pub bandsSet : ℕ → Spu → Spu
-bandsSet n s = record { x1 = s .x1; y1 = s .y1; x2 = s .x2; y2 = s .y2; «palette_sel» = s .«palette_sel»; alpha = s .alpha; started = s .started; «start_delay_raw» = s .«start_delay_raw»; stopped = s .stopped; «stop_delay_raw» = s .«stop_delay_raw»; «forced_display» = s .«forced_display»; «top_rle_off» = s .«top_rle_off»; «bot_rle_off» = s .«bot_rle_off»; «saw_chg_colcon» = true; «band_words» = n; counts = s .counts }
+bandsSet n s = record { x1 = s .x1; y1 = s .y1; x2 = s .x2; y2 = s .y2; «palette_sel» = s .«palette_sel»; alpha = s .alpha; started = s .started; «start_delay_raw» = s .«start_delay_raw»; stopped = s .stopped; «stop_delay_raw» = s .«stop_delay_raw»; «forced_display» = s .«forced_display»; «top_rle_off» = s .«top_rle_off»; «bot_rle_off» = s .«bot_rle_off»; «saw_chg_colcon» = true; «band_words» = n; codes = s .codes; clipped = s .clipped }
 
 -- ---- After a command
 

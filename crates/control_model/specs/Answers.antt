@@ -41,7 +41,8 @@ spuOf t n =
       «bot_rle_off» = t .fields .bottom;
       «saw_chg_colcon» = t .changed;
       «band_words» = length (bandWords (t .bands));
-      counts = n;
+      codes = n .codes;
+      clipped = n .clipped;
     }
 
 -- of an order whose parameters start at p, in a block of delay d, after t was told

@@ -1,13 +1,15 @@
 // Control blocks without their functions: the record `Spu`, the answers, the definitions and their laws, and the words of all bands of a unit.
-use rle_model::Counts;
 
 // The record of a unit, by the names of the original.
 pub struct Spu {
-    // How many words the bands of all colour changes take. The wide numbers come first and the flags last, so that no byte of the record is
-    // unused: unused ones would be carried from command to command too.
+    // The wide numbers come first and the flags last, so that no byte of the record is unused: unused ones would be
+    // carried from command to command too. So would two numbers next to each other that no command changes: the compiler
+    // copies them as one piece, and does not see that they stay 0. So what the rows of both fields count, which is 0 until
+    // they are read, has between it how many words the bands of all colour changes take.
+    pub codes: usize,
     pub band_words: usize,
-    // What the rows of both fields count; nothing until they are read.
-    pub counts: Counts,
+    // Those of the codes that are clipped.
+    pub clipped: usize,
     // The first and last column and the first and last line of the picture on the display.
     pub x1: u16,
     pub y1: u16,

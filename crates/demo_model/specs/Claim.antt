@@ -52,8 +52,8 @@ pub record ReadsBack (w h : ℕ) (px : List ℕ) (l : ListedUnit) (map ws : List
   pub y1 : says .y1 ≡ 0
   pub wide : says .x2 + 1 ≡ w
   pub high : says .y2 + 1 ≡ h
-  pub codes : says .counts .codes ≡ codesIn (l .rows)
-  pub clipped : says .counts .clipped ≡ 0
+  pub codes : says .codes ≡ codesIn (l .rows)
+  pub clipped : says .clipped ≡ 0
   pub others : says ≡ spuOf (writtenTold w h (4 + length (topNibbles lastMarks w h px) / 2)) (countsOf l)
   pub pixels : map′ ≡ sets map 0 px
   pub words : ws′ ≡ ws

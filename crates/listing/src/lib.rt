@@ -160,7 +160,6 @@ fn put_shown(
 {
     let width = s.x2 as usize + 1 - s.x1 as usize;
     let height = s.y2 as usize + 1 - s.y1 as usize;
-    let counts = s.counts;
     let a = put_times(n as u64, start, lasts, duration, line, 0);
     let b = put_area(
         s.x1 as u64,
@@ -173,7 +172,7 @@ fn put_shown(
     put_delays(
         s.start_delay_raw as u64,
         s.stop_delay_raw as u64,
-        counts.codes as u64,
+        s.codes as u64,
         line,
         b,
     )

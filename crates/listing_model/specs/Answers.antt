@@ -52,8 +52,8 @@ recordShown start duration s =
       y1 = s .y1;
       width = s .x2 + 1 - s .x1;
       height = s .y2 + 1 - s .y1;
-      codes = s .counts .codes;
-      clipped = s .counts .clipped;
+      codes = s .codes;
+      clipped = s .clipped;
     }
 
 -- the line of cue n with these times and the unit u

@@ -315,9 +315,8 @@ fn back(unit: &[u8], width: usize, height: usize, indices: &[u8], map: &mut [u8]
         SpuAnswer::Shows(s) => {
             if is_sized(s, width, height) {
                 if same(indices, map) {
-                    let counts = s.counts;
-                    if counts.clipped == 0 {
-                        return counts.codes;
+                    if s.clipped == 0 {
+                        return s.codes;
                     }
                 }
             }

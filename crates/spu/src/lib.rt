@@ -134,7 +134,8 @@ fn with_counts(spu: Spu, counts: Counts) -> Spu
     ensures { λ r. ⌜ ((t : Told) → spu ≡ spuOf t nothing → r ≡ spuOf t counts) ⌝ }
 {
     let mut s = spu;
-    s.counts = counts;
+    s.codes = counts.codes;
+    s.clipped = counts.clipped;
     s
 }
 

@@ -35,8 +35,8 @@ pub record Recorded (t : Told) (rs : List (List Code)) (s : Spu) : Type 0 where
   pub bottom : s .«bot_rle_off» ≡ t .fields .bottom
   pub changed : s .«saw_chg_colcon» ≡ t .changed
   pub band-words : s .«band_words» ≡ length (bandWords (t .bands))
-  pub codes : s .counts .codes ≡ codesIn rs
-  pub clipped : s .counts .clipped ≡ clippedIn (width t) rs
+  pub codes : s .codes ≡ codesIn rs
+  pub clipped : s .clipped ≡ clippedIn (width t) rs
 
 -- a record is of a unit that is listed, for which map and words are long enough, and these hold what is listed; a refusal leaves both as
 -- found, and says that none such is listed

@@ -308,7 +308,6 @@ fn shown_of(c: CueAnswer, s: Spu) -> Shown
 {
     let width = s.x2 as usize + 1 - s.x1 as usize;
     let height = s.y2 as usize + 1 - s.y1 as usize;
-    let counts = s.counts;
     Shown {
         start: c.start,
         has_duration: c.has_duration,
@@ -319,7 +318,8 @@ fn shown_of(c: CueAnswer, s: Spu) -> Shown
         y1: s.y1,
         width,
         height,
-        counts,
+        codes: s.codes,
+        clipped: s.clipped,
     }
 }
 

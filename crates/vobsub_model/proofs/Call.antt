@@ -151,7 +151,8 @@ module _ (text file : List ℕ) (cue stream : ℕ) (s px ws cv : List ℕ) where
             y1 = t .y1;
             width = t .width;
             height = t .height;
-            counts = t .counts;
+            codes = t .codes;
+            clipped = t .clipped;
           }
 
       module _ (m : Form) (f : streamUnit stream file (c .position) (length s) ≡ ok m) where

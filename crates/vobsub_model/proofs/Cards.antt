@@ -51,8 +51,8 @@ abbrev given : Shown
 given = record { start = pos 0; duration = none; start-delay = 0; stop-delay = 0; x1 = 1; y1 = 2; width = 3; height = 4; codes = 5; clipped = 2 }
 
 pub values-given :
-    (shownGiven given .x1 ≡ 1) × (shownGiven given .y1 ≡ 2) × (shownGiven given .counts .codes ≡ 5)
-    × (shownGiven given .counts .clipped ≡ 2)
+    (shownGiven given .x1 ≡ 1) × (shownGiven given .y1 ≡ 2) × (shownGiven given .codes ≡ 5)
+    × (shownGiven given .clipped ≡ 2)
 unfolding shownGiven
 values-given = (refl, refl, refl, refl)
 
@@ -63,7 +63,7 @@ blocks = record { place = 0; delay = 0; next = 0; commands = record { place = 4;
 pub values-recorded :
     (shownOf (cueAnswer (refuse no-cue)) (spuOf (told blocks) (record { codes = 5; clipped = 2 })) .x1 ≡ 1)
     × (shownOf (cueAnswer (refuse no-cue)) (spuOf (told blocks) (record { codes = 5; clipped = 2 })) .y1 ≡ 2)
-    × (shownOf (cueAnswer (refuse no-cue)) (spuOf (told blocks) (record { codes = 5; clipped = 2 })) .counts .codes ≡ 5)
-    × (shownOf (cueAnswer (refuse no-cue)) (spuOf (told blocks) (record { codes = 5; clipped = 2 })) .counts .clipped ≡ 2)
+    × (shownOf (cueAnswer (refuse no-cue)) (spuOf (told blocks) (record { codes = 5; clipped = 2 })) .codes ≡ 5)
+    × (shownOf (cueAnswer (refuse no-cue)) (spuOf (told blocks) (record { codes = 5; clipped = 2 })) .clipped ≡ 2)
 unfolding spuOf told commandsOf commandsIn firstDelay lastDelay lastNumbers stands allBands
 values-recorded = (refl, refl, refl, refl)

@@ -204,10 +204,10 @@ module _ (text file : List ℕ) (q : Wanted) where
 
     -- the number of clipped codes, in the grammar's words
     pub clipped-codes : (s : Shown) → r ≡ canvas-answer.Paints s → (x : Reading) → IsReading text file q x
-        → s .counts .clipped ≡ clippedIn (width (toldBy x)) (x .unit .rows)
+        → s .clipped ≡ clippedIn (width (toldBy x)) (x .unit .rows)
     unfolding shown
     clipped-codes s p x h =
         let e = claim .same x h (subst Gives (sym p) tt) in
         let z : canvas-answer.Paints s ≡ canvas-answer.Paints (e .says) = sym p ∙ e .paints in
         let y : s ≡ e .says = cc z in
-        ap (λ (t : Shown). t .counts .clipped) y ∙ e .clipped
+        ap (λ (t : Shown). t .clipped) y ∙ e .clipped

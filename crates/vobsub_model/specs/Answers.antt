@@ -50,7 +50,8 @@ shownOf c s =
       y1 = s .y1;
       width = s .x2 + 1 - s .x1;
       height = s .y2 + 1 - s .y1;
-      counts = s .counts;
+      codes = s .codes;
+      clipped = s .clipped;
     }
 
 abbrev pub paintsOf : CueAnswer → SpuAnswer → CanvasAnswer
@@ -83,7 +84,8 @@ shownGiven g =
       y1 = g .y1;
       width = g .width;
       height = g .height;
-      counts = record { codes = g .codes; clipped = g .clipped };
+      codes = g .codes;
+      clipped = g .clipped;
     }
 
 abbrev pub canvasAnswer : Res Reading → CanvasAnswer

@@ -1,5 +1,4 @@
 // The one call without its functions: what it answers, its definitions and those of painting, their laws and the claim on whole files.
-use rle_model::Counts;
 
 // Four selectors and four alphas, colour 0 in the top nibble of each.
 pub struct Four {
@@ -28,8 +27,9 @@ pub struct Shown {
     pub y1: u16,
     pub width: usize,
     pub height: usize,
-    // What the rows count.
-    pub counts: Counts,
+    // How many codes the rows have, and how many of these are clipped.
+    pub codes: usize,
+    pub clipped: usize,
 }
 
 // What a cue gives.

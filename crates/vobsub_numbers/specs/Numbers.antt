@@ -10,7 +10,7 @@ use Rattle.vobsub_model.specs.declared.Shown.{Shown}
 -- the numbers of a record in the order of include/vobsub.h
 abbrev pub spuNumbers : Spu → List ℕ
 spuNumbers s =
-    s .x1 ∷ s .y1 ∷ s .x2 ∷ s .y2 ∷ s .«palette_sel» ∷ s .alpha ∷ cond (s .started) 1 0 ∷ s .«start_delay_raw» ∷ cond (s .stopped) 1 0 ∷ s .«stop_delay_raw» ∷ cond (s .«forced_display») 1 0 ∷ s .«top_rle_off» ∷ s .«bot_rle_off» ∷ cond (s .«saw_chg_colcon») 1 0 ∷ s .«band_words» ∷ s .counts .codes ∷ s .counts .clipped ∷ []
+    s .x1 ∷ s .y1 ∷ s .x2 ∷ s .y2 ∷ s .«palette_sel» ∷ s .alpha ∷ cond (s .started) 1 0 ∷ s .«start_delay_raw» ∷ cond (s .stopped) 1 0 ∷ s .«stop_delay_raw» ∷ cond (s .«forced_display») 1 0 ∷ s .«top_rle_off» ∷ s .«bot_rle_off» ∷ cond (s .«saw_chg_colcon») 1 0 ∷ s .«band_words» ∷ s .codes ∷ s .clipped ∷ []
 
 -- size, whether there is a palette and the number of cues in the order of include/vobsub.h
 abbrev pub idxNumbers : IdxAnswer → List ℕ
@@ -24,4 +24,4 @@ cueNumbers a = a .position ∷ cond (a .«has_duration») 1 0 ∷ a .duration �
 -- ones in the order of include/vobsub.h
 abbrev pub shownNumbers : Shown → List ℕ
 shownNumbers s =
-    cond (s .«has_duration») 1 0 ∷ s .duration ∷ s .«start_delay» ∷ s .«stop_delay» ∷ s .x1 ∷ s .y1 ∷ s .width ∷ s .height ∷ s .counts .codes ∷ s .counts .clipped ∷ []
+    cond (s .«has_duration») 1 0 ∷ s .duration ∷ s .«start_delay» ∷ s .«stop_delay» ∷ s .x1 ∷ s .y1 ∷ s .width ∷ s .height ∷ s .codes ∷ s .clipped ∷ []

@@ -2,7 +2,6 @@
 use control_model::Spu;
 use idx_model::CueAnswer;
 use idx_model::IdxAnswer;
-use rle_model::Counts;
 use vobsub_model::Shown;
 ghost use mathlib.Core.Bool.{cond};
 ghost use mathlib.Core.Path.{_≡_};
@@ -32,9 +31,10 @@ fn in_order(
     bot_rle_off: u16,
     saw_chg_colcon: bool,
     band_words: usize,
-    counts: Counts,
+    codes: usize,
+    clipped: usize,
 ) -> [usize; 17]
-    ensures { λ r. ⌜ r ≡ spuNumbers (record { x1 = x1; y1 = y1; x2 = x2; y2 = y2; «palette_sel» = «palette_sel»; alpha = alpha; started = started; «start_delay_raw» = «start_delay_raw»; stopped = stopped; «stop_delay_raw» = «stop_delay_raw»; «forced_display» = «forced_display»; «top_rle_off» = «top_rle_off»; «bot_rle_off» = «bot_rle_off»; «saw_chg_colcon» = «saw_chg_colcon»; «band_words» = «band_words»; counts = counts }) ⌝ }
+    ensures { λ r. ⌜ r ≡ spuNumbers (record { x1 = x1; y1 = y1; x2 = x2; y2 = y2; «palette_sel» = «palette_sel»; alpha = alpha; started = started; «start_delay_raw» = «start_delay_raw»; stopped = stopped; «stop_delay_raw» = «stop_delay_raw»; «forced_display» = «forced_display»; «top_rle_off» = «top_rle_off»; «bot_rle_off» = «bot_rle_off»; «saw_chg_colcon» = «saw_chg_colcon»; «band_words» = «band_words»; codes = codes; clipped = clipped }) ⌝ }
 {
     let starts = flag(started);
     let stops = flag(stopped);
@@ -56,8 +56,8 @@ fn in_order(
         bot_rle_off as usize,
         changed,
         band_words,
-        counts.codes,
-        counts.clipped,
+        codes,
+        clipped,
     ]
 }
 
@@ -65,7 +65,6 @@ fn in_order(
 pub fn numbers_of(s: Spu) -> [usize; 17]
     ensures { λ r. ⌜ r ≡ spuNumbers s ⌝ }
 {
-    let counts = s.counts;
     in_order(
         s.x1,
         s.y1,
@@ -82,7 +81,8 @@ pub fn numbers_of(s: Spu) -> [usize; 17]
         s.bot_rle_off,
         s.saw_chg_colcon,
         s.band_words,
-        counts,
+        s.codes,
+        s.clipped,
     )
 }
 
@@ -111,7 +111,6 @@ pub fn shown_numbers_of(s: Shown) -> [u64; 10]
     ensures { λ r. ⌜ r ≡ shownNumbers s ⌝ }
 {
     let lasts = flag(s.has_duration);
-    let counts = s.counts;
     [
         lasts as u64,
         s.duration,
@@ -121,7 +120,7 @@ pub fn shown_numbers_of(s: Shown) -> [u64; 10]
         s.y1 as u64,
         s.width as u64,
         s.height as u64,
-        counts.codes as u64,
-        counts.clipped as u64,
+        s.codes as u64,
+        s.clipped as u64,
     ]
 }

@@ -74,13 +74,21 @@ slice-aggregate-paint c = sym (length-take-le (c .before .before .before .before
 
 paint-requires : tie.Need-paint-requires
 paint-requires c κs =
-    let w = known _ _ (c .before .before .before .before .before .before .before .before .before .before .before .before .before .before .before .before .before .before .before .before .before .before .before .before .before .pre) in
+    let d = c .before .before .before .before .before .before .before .before .before .before in
+    let f = d .before .before .before .before .before .before .before .before .before .before in
+    let s = f .before .before .before .before .before in
+    let w = known _ _ (s .pre) in
     let a = w .wide in
     let b = w .high in
-    let k = c .before .before .before .before .before .before .before .before .before .before .decode-told .kept .1 .1 .0 in
-    let m : c .before .before .before .before .before .before .before .before .before .before .before .before .before .before .before .before .before .before .before .before .before .before .before .before .before .args .spu .x2 < 65536 = omega (arith, c .before .before .before .before .before .before .before .before .before .before .before .before .before .before .before .before .before .before .before .before .struct-known .given .1 .1 .1 .1 .0) in
-    let n : c .before .before .before .before .before .before .before .before .before .before .before .before .before .before .before .before .before .before .before .before .before .before .before .before .before .args .spu .y2 < 65536 = omega (arith, c .before .before .before .before .before .before .before .before .before .before .before .before .before .before .before .before .before .before .before .before .struct-known .given .1 .1 .1 .1 .1 .0) in
-    (omega arith, omega arith, subst (λ (n : ℕ). (c .before .before .before .before .before .before .before .before .before .before .before .before .before .before .before .before .before .before .before .before .before .before .before .before .before .args .spu .x2 + 1 - c .before .before .before .before .before .before .before .before .before .before .before .before .before .before .before .before .before .before .before .before .before .before .before .before .before .args .spu .x1) * (c .before .before .before .before .before .before .before .before .before .before .before .before .before .before .before .before .before .before .before .before .before .before .before .before .before .args .spu .y2 + 1 - c .before .before .before .before .before .before .before .before .before .before .before .before .before .before .before .before .before .before .before .before .before .before .before .before .before .args .spu .y1) ≤ n) (sym k) (c .before .before .before .before .before .before .before .before .before .before .before .before .before .before .before .before .if1 .left), c .before .before .before .before .before .before .before .before .before .before .before .before .before .if3 .left)
+    let k = d .decode-told .kept .1 .1 .0 in
+    let m : s .args .spu .x2 < 65536 = omega (arith, f .struct-known .given .1 .1 .1 .1 .1 .0) in
+    let n : s .args .spu .y2 < 65536 = omega (arith, f .struct-known .given .1 .1 .1 .1 .1 .1 .0) in
+    let l = c .before .before .before .before .before .before .before .before .before .before .before .before .before .before .before .before .if1 .left in (
+      omega arith,
+      omega arith,
+      subst (λ (n : ℕ). (s .args .spu .x2 + 1 - s .args .spu .x1) * (s .args .spu .y2 + 1 - s .args .spu .y1) ≤ n) (sym k) l,
+      c .before .before .before .before .before .before .before .before .before .before .before .before .before .if3 .left,
+    )
 
 enum-known-number : tie.Need-enum-known-number
 enum-known-number c = search needs
