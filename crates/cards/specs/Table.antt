@@ -159,8 +159,8 @@ small-cue = record { start = pos 1000000; position = 0 }
 abbrev pub small-shown : Shown
 small-shown = record { start = pos 1000000; duration = none; start-delay = 0; stop-delay = 0; x1 = 0; y1 = 0; width = 2; height = 2; codes = 3; clipped = 0 }
 
--- the first cue of a text and a file, with so much of each buffer lent: start, whether it lasts and how long, both delays, origin, size, the numbers
--- of codes and of clipped ones, and the canvas (FORMAT 6)
+-- the first cue of a text and a file, with so much of each buffer lent: start, whether it lasts and how long, both
+-- delays, origin, size, the numbers of codes and of clipped ones, and the canvas (FORMAT 6)
 abbrev lasting : Option ℕ → List ℕ
 lasting none = 0 ∷ []
 lasting (some d) = 1 ∷ d ∷ []

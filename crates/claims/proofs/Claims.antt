@@ -2,7 +2,7 @@
 -- gives what that means in the grammar's words. Assumes nothing.
 use Prim.Native.Nat.{ℕ, _≤_, _<_}
 use mathlib.Core.Path.{_≡_}
-use mathlib.Core.Bool.{Bool}
+use mathlib.Core.Bool.{Bool, true, false}
 use mathlib.Core.List.{List, []}
 use lib.ListN.{length}
 use lib.Seq.{sets}
@@ -16,12 +16,12 @@ use Rattle.grammar.specs.Pixels.{clippedIn}
 use Rattle.grammar.specs.Record.{width}
 use Rattle.grammar.specs.Reading.{Wanted, Reading, IsReading, toldBy, shown}
 use Rattle.grammar.specs.Streams.{Walk, Alike}
-use Rattle.grammar.specs.Rows.{Code, FieldRows}
+use Rattle.grammar.specs.Rows.{Code, run, fills, paints, overshoots, FieldRows}
 use Rattle.grammar.proofs.Unique.{field-unique, bands-unique}
 use Rattle.grammar.proofs.UniqueControl.{unit-unique}
 use Rattle.grammar.proofs.UniqueIndex.{text-unique}
 use Rattle.grammar.proofs.UniquePackets.{form-unique}
-use Rattle.grammar.proofs.Clipped.{reading-most}
+use Rattle.grammar.proofs.Clipped.{clipped-paints, clipped-cut, unclipped-whole, clipped-reading-most}
 use Rattle.grammar.proofs.Streams.{walk-same}
 use Rattle.rle_model.specs.declared.FieldAnswer.{FieldAnswer}
 use Rattle.rle_model.specs.Answers as field
@@ -72,15 +72,22 @@ pub whole-files : (text file : List ℕ) (q : Wanted) (b : Lent) (r : CanvasAnsw
 whole-files text file q b r b′ d = vobsub-proof.claim text file q b r b′ d
 
 -- Clipped codes (`decode_cue`): their number is how many of the codes that the reading lists name a run longer than
--- what is left of their row; a reading has no more of them than lines.
+-- what is left of their row; a reading has no more of them than lines, and no more than codes. A clipped code paints
+-- less than its run, and any other that is no fill its whole run.
 pub clipped-codes : (text file : List ℕ) (q : Wanted) (b : Lent) (r : CanvasAnswer) (b′ : Lent) → CuePainted text file q b r b′
     → (s : Shown) → r ≡ canvas-answer.Paints s → (x : Reading) → IsReading text file q x
     → s .clipped ≡ clippedIn (width (toldBy x)) (x .unit .rows)
 clipped-codes text file q b r b′ d s p x h = vobsub-proof.clipped-codes text file q b r b′ d s p x h
 
 pub few-clipped : (text file : List ℕ) (q : Wanted) (x : Reading) → IsReading text file q x
-    → shown x .clipped ≤ shown x .height
-few-clipped = reading-most
+    → (shown x .clipped ≤ shown x .height) × (shown x .clipped ≤ shown x .codes)
+few-clipped = clipped-reading-most
+
+pub a-clipped-code : (left : ℕ) (c : Code) → overshoots left c ≡ true → (paints left c ≡ left) × (paints left c < run c)
+a-clipped-code left c h = (clipped-paints left c h, clipped-cut left c h)
+
+pub an-unclipped-run : (left : ℕ) (c : Code) → fills c ≡ false → overshoots left c ≡ false → paints left c ≡ run c
+an-unclipped-run = unclipped-whole
 
 -- Other streams (`decode_cue`, `extract_spu`, `cue_line`): a file that differs in packets of other streams alone, among
 -- those walked from the cue's position, gives the same readings, the same answer and the same buffers. Every place has

@@ -3,10 +3,11 @@
 // The record of a unit, by the names of the original.
 pub struct Spu {
     // The wide numbers come first and the flags last, so that no byte of the record is unused: unused ones would be
-    // carried from command to command too. So would two numbers next to each other that no command changes: the compiler
-    // copies them as one piece, and does not see that they stay 0. So what the rows of both fields count, which is 0 until
-    // they are read, has between it how many words the bands of all colour changes take.
+    // carried from command to command too.
+    // The codes of both fields; 0 until the rows are read.
     pub codes: usize,
+    // How many words the bands of all colour changes take. It parts the two numbers of codes: side by side the compiler
+    // copies these with every command, as it does not see that they stay 0.
     pub band_words: usize,
     // Those of the codes that are clipped.
     pub clipped: usize,

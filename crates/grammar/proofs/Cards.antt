@@ -150,9 +150,9 @@ tabled = refl
 -- ---- Clipped codes (FORMAT 5.11)
 
 -- 1 where the code c is clipped with so many pixels of its row left, and 0 where it is not
-abbrev clips : Code → List ℕ → List ℕ
-clips c [] = []
-clips c (left ∷ ls) = cond (overshoots left c) 1 0 ∷ clips c ls
+abbrev clippedWith : Code → List ℕ → List ℕ
+clippedWith c [] = []
+clippedWith c (left ∷ ls) = cond (overshoots left c) 1 0 ∷ clippedWith c ls
 
 -- with one pixel less than n, with n and with one more
 abbrev around : ℕ → List ℕ
@@ -160,7 +160,7 @@ around n = (n - 1) ∷ n ∷ (n + 1) ∷ []
 
 -- the least and the greatest run of each length: clipped by one pixel, and neither as long as what is left nor shorter
 pub one-pixel-over :
-    map (λ (c : Code). clips c (around (c .value / 4)))
+    map (λ (c : Code). clippedWith c (around (c .value / 4)))
     (code 0 1 4 ∷ code 0 1 15 ∷ code 0 2 16 ∷ code 0 2 63 ∷ code 0 3 64 ∷ code 0 3 255 ∷ code 0 4 256 ∷ code 0 4 1023
     ∷ [])
     ≡ replicate 8 (1 ∷ 0 ∷ 0 ∷ [])
@@ -169,8 +169,8 @@ one-pixel-over = refl
 
 -- the fill `00F7`, whose number by four is 61; three nibbles of that number are a run of 61
 pub fill-not-clipped :
-    (clips (code 0 4 0xF7) (0 ∷ 1 ∷ 2 ∷ 60 ∷ 61 ∷ []) ≡ 0 ∷ 0 ∷ 0 ∷ 0 ∷ 0 ∷ [])
-    × (clips (code 0 3 0xF7) (around 61) ≡ 1 ∷ 0 ∷ 0 ∷ [])
+    (clippedWith (code 0 4 0xF7) (0 ∷ 1 ∷ 2 ∷ 60 ∷ 61 ∷ []) ≡ 0 ∷ 0 ∷ 0 ∷ 0 ∷ 0 ∷ [])
+    × (clippedWith (code 0 3 0xF7) (around 61) ≡ 1 ∷ 0 ∷ 0 ∷ [])
 unfolding overshoots
 fill-not-clipped = (refl, refl)
 

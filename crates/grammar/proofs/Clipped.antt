@@ -1,21 +1,21 @@
--- A clipped code ends its row: a row has one at most, and a picture no more than it has lines (FORMAT 5.11).
--- Assumes nothing.
-use Prim.Native.Nat.{ℕ, suc, _+_, _-_, _*_, _/_, _≤_, _<_, min}
+-- What a clipped code paints, and how many there are: one ends its row, so a row has one at most, and a picture no more
+-- than it has lines (FORMAT 5.11). Assumes nothing.
+use Prim.Native.Nat.{ℕ, suc, _+_, _-_, _≤_, _<_, min}
 use native.Mathlib.Omega.{arith}
-use mathlib.Core.Path.{_≡_, refl, sym, ap, _∙_}
+use mathlib.Core.Path.{_≡_, refl}
 use mathlib.Core.Bool.{Bool, true, false, not, cond, _&&_}
 use mathlib.Core.Logic.{⊎-elim}
 use mathlib.Core.List.{List, [], _∷_}
 use lib.Dec.{ltb}
 use lib.ListN.{length}
-use borrow.Author.Tests.{ltb-true}
+use borrow.Author.Tests.{ltb-true, ltb-false}
 use Rattle.grammar.specs.Rows.{Code, fills, run, paints, overshoots, RowCodes, afterCodes, align, FieldRows}
-use Rattle.grammar.specs.Pixels.{clippedRow, clippedIn}
+use Rattle.grammar.specs.Pixels.{codesIn, clippedRow, clippedIn}
 use Rattle.grammar.specs.Record.{Told, width, height}
 use Rattle.grammar.specs.Picture.{evens, odds, Stay0, IsPicture}
 use Rattle.grammar.specs.Reading.{Wanted, Reading, IsReading, shown}
 
--- a clipped code paints all that is left
+-- a clipped code paints all that is left, and less than its run; any other that is no fill paints its whole run
 pub clipped-paints : (left : ℕ) (c : Code) → overshoots left c ≡ true → paints left c ≡ left
 unfolding overshoots paints
 clipped-paints left c h = go (fills c) (ltb left (run c)) refl h
@@ -25,6 +25,22 @@ clipped-paints left c h = go (fills c) (ltb left (run c)) refl h
     go false true q e = let l = ltb-true left (run c) q in omega arith
     go false false q e = let z : _≡_ {A = ℕ} 0 1 = cc in absurd (omega arith)
 
+pub clipped-cut : (left : ℕ) (c : Code) → overshoots left c ≡ true → paints left c < run c
+unfolding overshoots
+clipped-cut left c h = go (fills c) (ltb left (run c)) refl h (clipped-paints left c h)
+  where
+    go : (f t : Bool) → ltb left (run c) ≡ t → (not f && t) ≡ true → paints left c ≡ left → paints left c < run c
+    go true t q e p = let z : _≡_ {A = ℕ} 0 1 = cc in absurd (omega arith)
+    go false true q e p = let l = ltb-true left (run c) q in omega arith
+    go false false q e p = let z : _≡_ {A = ℕ} 0 1 = cc in absurd (omega arith)
+
+pub unclipped-whole : (left : ℕ) (c : Code) → fills c ≡ false → overshoots left c ≡ false → paints left c ≡ run c
+unfolding overshoots paints
+unclipped-whole left c f h =
+    let l : ltb left (run c) ≡ false = rw f at h in
+    let m = ltb-false left (run c) l in
+    rw f (omega arith)
+
 module _ (u : List ℕ) (e : ℕ) where
   -- nothing follows where nothing is left
   row-over : (left p : ℕ) (cs : List Code) → left ≡ 0 → RowCodes u e left p cs → clippedRow left cs ≡ 0
@@ -32,10 +48,11 @@ module _ (u : List ℕ) (e : ℕ) where
   row-over left p [] z h = refl
   row-over left p (c ∷ cs) z h = absurd (omega (arith, h .0))
 
-  pub row-most : (left p : ℕ) (cs : List Code) → RowCodes u e left p cs → clippedRow left cs ≤ 1
+  pub clipped-row-most : (left p : ℕ) (cs : List Code) → RowCodes u e left p cs → clippedRow left cs ≤ 1
   unfolding RowCodes clippedRow
-  row-most left p [] h = omega arith
-  row-most left p (c ∷ cs) h = go (overshoots left c) refl (row-most (left - paints left c) (p + c .size) cs (h .3))
+  clipped-row-most left p [] h = omega arith
+  clipped-row-most left p (c ∷ cs) h =
+      go (overshoots left c) refl (clipped-row-most (left - paints left c) (p + c .size) cs (h .3))
     where
       go : (b : Bool) → overshoots left c ≡ b → clippedRow (left - paints left c) cs ≤ 1
           → cond b 1 0 + clippedRow (left - paints left c) cs ≤ 1
@@ -44,10 +61,27 @@ module _ (u : List ℕ) (e : ℕ) where
           omega (arith, row-over (left - paints left c) (p + c .size) cs z (h .3))
       go false q i = omega arith
 
-  pub rows-most : (w p : ℕ) (rs : List (List Code)) → FieldRows u e w p rs → clippedIn w rs ≤ length rs
+  pub clipped-rows-most : (w p : ℕ) (rs : List (List Code)) → FieldRows u e w p rs → clippedIn w rs ≤ length rs
   unfolding FieldRows clippedIn
-  rows-most w p [] h = omega arith
-  rows-most w p (r ∷ rs) h = omega (arith, row-most w p r (h .0), rows-most w (align (afterCodes p r)) rs (h .1))
+  clipped-rows-most w p [] h = omega arith
+  clipped-rows-most w p (r ∷ rs) h =
+      omega (arith, clipped-row-most w p r (h .0), clipped-rows-most w (align (afterCodes p r)) rs (h .1))
+
+-- no more codes are clipped than are listed
+row-listed : (left : ℕ) (cs : List Code) → clippedRow left cs ≤ length cs
+unfolding clippedRow
+row-listed left [] = omega arith
+row-listed left (c ∷ cs) = go (overshoots left c) (row-listed (left - paints left c) cs)
+  where
+    go : (b : Bool) → clippedRow (left - paints left c) cs ≤ length cs
+        → cond b 1 0 + clippedRow (left - paints left c) cs ≤ suc (length cs)
+    go true i = omega arith
+    go false i = omega arith
+
+pub clipped-listed : (w : ℕ) (rs : List (List Code)) → clippedIn w rs ≤ codesIn rs
+unfolding clippedIn codesIn
+clipped-listed w [] = omega arith
+clipped-listed w (r ∷ rs) = omega (arith, row-listed w r, clipped-listed w rs)
 
 -- rows that stay 0 have none
 pub blank-none : (w : ℕ) (rs : List (List Code)) → Stay0 rs → clippedIn w rs ≡ 0
@@ -57,30 +91,31 @@ blank-none w (r ∷ rs) h = rw (h .0) (omega (arith, blank-none w rs (h .1)))
 
 -- ---- Both fields
 
-halves : (w : ℕ) (rs : List (List Code)) → clippedIn w rs ≡ clippedIn w (evens rs) + clippedIn w (odds rs)
+clipped-halved : (w : ℕ) (rs : List (List Code)) → clippedIn w rs ≡ clippedIn w (evens rs) + clippedIn w (odds rs)
 unfolding evens clippedIn
-halves w [] = refl
-halves w (r ∷ []) = omega arith
-halves w (r ∷ q ∷ []) = omega arith
-halves w (r ∷ q ∷ s ∷ rs) = omega (arith, halves w (s ∷ rs))
+clipped-halved w [] = refl
+clipped-halved w (r ∷ []) = omega arith
+clipped-halved w (r ∷ q ∷ []) = omega arith
+clipped-halved w (r ∷ q ∷ s ∷ rs) = omega (arith, clipped-halved w (s ∷ rs))
 
-halves-length : (rs : List (List Code)) → length rs ≡ length (evens rs) + length (odds rs)
+rows-halved : (rs : List (List Code)) → length rs ≡ length (evens rs) + length (odds rs)
 unfolding evens
-halves-length [] = refl
-halves-length (r ∷ []) = omega arith
-halves-length (r ∷ q ∷ []) = omega arith
-halves-length (r ∷ q ∷ s ∷ rs) = omega (arith, halves-length (s ∷ rs))
+rows-halved [] = refl
+rows-halved (r ∷ []) = omega arith
+rows-halved (r ∷ q ∷ []) = omega arith
+rows-halved (r ∷ q ∷ s ∷ rs) = omega (arith, rows-halved (s ∷ rs))
 
-pub picture-most : (u : List ℕ) (t : Told) (rs : List (List Code)) → IsPicture u t rs
+pub clipped-picture-most : (u : List ℕ) (t : Told) (rs : List (List Code)) → IsPicture u t rs
     → clippedIn (width t) rs ≤ height t
-picture-most u t rs h =
-    let a = rows-most u _ (width t) _ (evens rs) (h .top) in
+clipped-picture-most u t rs h =
+    let a = clipped-rows-most u _ (width t) _ (evens rs) (h .top) in
     let b : clippedIn (width t) (odds rs) ≤ length (odds rs) =
-    ⊎-elim (λ f. rows-most u _ (width t) _ (odds rs) (f .2))
+    ⊎-elim (λ f. clipped-rows-most u _ (width t) _ (odds rs) (f .2))
     (λ f. omega (arith, blank-none (width t) (odds rs) (f .1))) (h .bottom) in
-    omega (arith, halves (width t) rs, halves-length rs, h .all)
+    omega (arith, clipped-halved (width t) rs, rows-halved rs, h .all)
 
-pub reading-most : (text file : List ℕ) (q : Wanted) (x : Reading) → IsReading text file q x
-    → shown x .clipped ≤ shown x .height
+pub clipped-reading-most : (text file : List ℕ) (q : Wanted) (x : Reading) → IsReading text file q x
+    → (shown x .clipped ≤ shown x .height) × (shown x .clipped ≤ shown x .codes)
 unfolding shown
-reading-most text file q x h = picture-most _ _ (x .unit .rows) (h .unit-is .picture)
+clipped-reading-most text file q x h =
+    (clipped-picture-most _ _ (x .unit .rows) (h .unit-is .picture), clipped-listed _ (x .unit .rows))

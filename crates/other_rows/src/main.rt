@@ -4,11 +4,10 @@
 // numbers:
 // read_code: a place, the pixels left. read_through, align_through: a place. chg_colcon_lookup: column, line; the bands
 // are those of the bytes, or the words that stand behind another bar. measure_spu: none. extract_spu: position, stream,
-// scratch; the bytes are the head of a file of 65,555 bytes, each i % 251, and those behind another bar stand at 32,774.
-// build_demo_spu:
-// width, height, output, and for a picture that code builds its size, n, p and k: bytes 1 and 2 in turn, n at a time,
-// but from 126,976 on p of them in pairs; or, where k is not 0, each of the first k pictures, whose bytes are the
-// digits of its number to base 4.
+// scratch; the bytes are the head of a file of 65,555 bytes, each i % 251, and those behind another bar stand at
+// 32,774. build_demo_spu: width, height, output, and for a picture that code builds its size, n, p and k: bytes 1 and 2
+// in turn, n at a time, but from 126,976 on p of them in pairs; or, where k is not 0, each of the first k pictures,
+// whose bytes are the digits of its number to base 4.
 use bands_model::BandAnswer;
 use bands_model::LookAnswer;
 use control_model::Spu;

@@ -24,7 +24,7 @@ ghost use Rattle.rle_model.specs.Answers.{RowMeasured, FieldMeasured, RowFilled
 // A row below this width has no run that a kept number could not hold.
 const WIDEST: usize = 16384;
 
-// Ruled out: one of the two counts; a sum that wraps.
+// Ruled out: the counts of one side alone; a sum that wraps.
 pub fn plus_counts(a: Counts, b: Counts) -> Counts
     requires { ⌜ AtMost (2 ^ 64 - 1) (plus a b) ⌝ }
     ensures { λ r. ⌜ r ≡ plus a b ⌝ }

@@ -46,13 +46,13 @@ both-counted = refl
 -- `9`, a run of two pixels: clipped with one left, not with two
 pub code-clipped : codeAnswer 1 (ok (code 0 1 9)) ∷ codeAnswer 2 (ok (code 0 1 9)) ∷ []
     ≡ code-answer.Got 1 9 true (record { pos = 1 }) ∷ code-answer.Got 1 9 false (record { pos = 1 }) ∷ []
-unfolding overshoots
+unfolding overshoots paints
 code-clipped = refl
 
 -- `59` in rows of two pixels: the second code has one left
-pub row-clipped : fieldCounts 2 ((code 0 1 5 ∷ code 1 1 9 ∷ []) ∷ []) ≡ record { codes = 2; clipped = 1 }
+pub second-clipped : fieldCounts 2 ((code 0 1 5 ∷ code 1 1 9 ∷ []) ∷ []) ≡ record { codes = 2; clipped = 1 }
 unfolding fieldCounts rowCounts paints overshoots
-row-clipped = refl
+second-clipped = refl
 
 -- a clipped code in each field counts 2
 pub both-clipped :

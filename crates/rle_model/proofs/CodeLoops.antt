@@ -102,9 +102,9 @@ coded u e left p k v b x q = go (codeAt u e p) refl q
         }
 
 -- and whether it is clipped
-pub clips : (u : List ℕ) (e left p k v : ℕ) (b : Bool) (x : Cursor)
+pub coded-clipped : (u : List ℕ) (e left p k v : ℕ) (b : Bool) (x : Cursor)
     → code-answer.Got k v b x ≡ codeAnswer left (codeAt u e p) → b ≡ overshoots left (code p k v)
-clips u e left p k v b x q =
+coded-clipped u e left p k v b x q =
     let h = coded u e left p k v b x q .here in
     let z : overshoots left (code p k v) ≡ b = cc in
     sym z

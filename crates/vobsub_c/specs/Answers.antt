@@ -130,8 +130,8 @@ pub record FieldDecoded (field : List ℕ) (w h start : ℕ) (pixels : List ℕ)
     (codes′ clipped′ : ℕ) : Type 0 where
   pub refusal : r ≡ fieldRefusal (fieldAnswer w (decoded field w h start pixels))
   pub returned : Returned (decoded field w h start pixels) r
-  pub counts : codes′ ≡ fieldCodes (fieldAnswer w (decoded field w h start pixels)) codes
-  pub clips : clipped′ ≡ fieldClipped (fieldAnswer w (decoded field w h start pixels)) clipped
+  pub codes-are : codes′ ≡ fieldCodes (fieldAnswer w (decoded field w h start pixels)) codes
+  pub clipped-are : clipped′ ≡ fieldClipped (fieldAnswer w (decoded field w h start pixels)) clipped
   pub stores : pixels′ ≡ paintField w (start * w) (listed (decoded field w h start pixels)) pixels
 
 abbrev pub spuRefusal : SpuAnswer → ℕ

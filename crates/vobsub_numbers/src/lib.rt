@@ -61,7 +61,7 @@ fn in_order(
     ]
 }
 
-// Ruled out: first and last line in each other's place.
+// Ruled out: first and last line in each other's place, or the two numbers of codes.
 pub fn numbers_of(s: Spu) -> [usize; 17]
     ensures { λ r. ⌜ r ≡ spuNumbers s ⌝ }
 {

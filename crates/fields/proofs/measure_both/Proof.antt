@@ -1,5 +1,4 @@
 -- `fields::measure_both` meets its contract: the counts of the one and then the other, or a refusal. Assumes nothing.
-use native.Mathlib.Omega.{arith}
 use mathlib.Core.Path.{sym, _∙_}
 use borrow.Author.Needs.{needs}
 use Rattle.rle_model.proofs.Both.{field-most, measured-rows, measured-refused}

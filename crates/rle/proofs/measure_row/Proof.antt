@@ -19,7 +19,7 @@ use Rattle.rle_model.specs.declared.Counts.{Counts}
 use Rattle.rle_model.specs.declared.RowAnswer.the-variants as row-answer
 use Rattle.grammar.proofs.Lengths.{paints-le}
 use Rattle.rle_model.proofs.Grammar.{paints-pos}
-use Rattle.rle_model.proofs.CodeLoops.{Coded, coded, clips, uncoded}
+use Rattle.rle_model.proofs.CodeLoops.{Coded, coded, coded-clipped, uncoded}
 use Rattle.rle_model.proofs.Loops.{plusRow, row-whole, row-more, row-short, row-end, last-more, last-over}
 use Rattle.rle_model.proofs.Kept.{keep-more, keep-short, keep-end}
 use Rattle.rle.proofs.measure_row.Statement.{statement}
@@ -84,7 +84,7 @@ got c = coded _ _ _ _ _ _ _ _ (sym (c .before .size .given .1) ∙ read c .read-
 flag : (c : tie.After-known-told Inv-loop μ-loop)
     → c .before .size .given .0 .1 .1 .0
     ≡ overshoots (turn c .loop .left) (code (turn c .loop .pos) (c .before .size .given .0 .0) (c .before .size .given .0 .1 .0))
-flag c = clips _ _ _ _ _ _ _ _ (sym (c .before .size .given .1) ∙ read c .read-code .ensures)
+flag c = coded-clipped _ _ _ _ _ _ _ _ (sym (c .before .size .given .1) ∙ read c .read-code .ensures)
 
 add-at : tie.Need-add-at Inv-loop μ-loop
 add-at c = omega (arith, got c .is .inside, turn c .loop .inv .behind)

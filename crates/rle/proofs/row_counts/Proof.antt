@@ -4,7 +4,6 @@ use mathlib.Core.Path.{_≡_, refl, ap}
 use mathlib.Core.Bool.{Bool, true, false, cond}
 use mir.Val.{boolByte}
 use borrow.Author.Needs.{needs}
-use Rattle.rle_model.specs.declared.Counts.{Counts}
 use Rattle.rle.proofs.row_counts.Statement.{statement}
 use Rattle.rle.proofs.row_counts.Tie as tie
 

@@ -18,8 +18,8 @@ given f w h s px px′ n m a b e q =
     record {
       refusal = ap fieldRefusal y;
       returned = field-returned _ _ _ _ _ _ (ap fieldRefusal y);
-      counts = ap (λ (o : FieldAnswer). fieldCodes o n) y;
-      clips = ap (λ (o : FieldAnswer). fieldClipped o m) y;
+      codes-are = ap (λ (o : FieldAnswer). fieldCodes o n) y;
+      clipped-are = ap (λ (o : FieldAnswer). fieldClipped o m) y;
       stores = q .pixels;
     }
 
