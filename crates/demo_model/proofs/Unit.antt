@@ -16,6 +16,9 @@ use Rattle.grammar.specs.Control.{Order, start, selectors, alphas, area, offset
 use Rattle.grammar.specs.Record.{told, width, commandsOf, commandsIn, firstDelay, lastDelay, lastNumbers, stands, allBands}
 use Rattle.grammar.specs.Picture.{evens, odds, topEnd, Stay0, Bottom, ListedUnit, IsUnit}
 use Rattle.rle_model.specs.Fields.{weave}
+use Rattle.rle_model.specs.Answers.{plus, listedCounts}
+use Rattle.rle_model.specs.declared.Counts.{Counts}
+use Rattle.rle_model.proofs.Claim.{listed-weave}
 use Rattle.spu_model.proofs.Grammar.{Paired, weave-length, weave-evens, weave-odds, weave-whole, evens-length, odds-length}
 use Rattle.demo_model.specs.Codes.{Mark, digits, nibblesOf, rowMarks, rowNibbles, fieldNibbles, marksIn, packed, pictureRows}
 use Rattle.demo_model.specs.Unit.{Four, wordBytes, controlBytes, topNibbles, bottomNibbles, unitOf}
@@ -205,22 +208,6 @@ painted-weave w [] b = refl
 painted-weave w (x ∷ a) [] = refl
 painted-weave w (x ∷ a) (y ∷ b) = ap (λ (l : List (List ℕ)). rowPixels w x ∷ rowPixels w y ∷ l) (painted-weave w a b)
 
-codes-weave : (a b : List (List Code)) → Paired a b → codesIn (weave a b) ≡ codesIn a + codesIn b
-unfolding weave codesIn
-codes-weave [] [] h = omega arith
-codes-weave [] (y ∷ b) h = absurd (let l = h .0 in omega arith)
-codes-weave (x ∷ []) [] h = omega arith
-codes-weave (x ∷ z ∷ a) [] h = absurd (let l = h .1 in omega arith)
-codes-weave (x ∷ a) (y ∷ b) h = let i = codes-weave a b (let l = h .0 in omega arith, let l = h .1 in omega arith) in omega arith
-
-clipped-weave : (w : ℕ) (a b : List (List Code)) → Paired a b → clippedIn w (weave a b) ≡ clippedIn w a + clippedIn w b
-unfolding weave clippedIn
-clipped-weave w [] [] h = omega arith
-clipped-weave w [] (y ∷ b) h = absurd (let l = h .0 in omega arith)
-clipped-weave w (x ∷ []) [] h = omega arith
-clipped-weave w (x ∷ z ∷ a) [] h = absurd (let l = h .1 in omega arith)
-clipped-weave w (x ∷ a) (y ∷ b) h = omega (arith, clipped-weave w a b (omega (arith, h .0), omega (arith, h .1)))
-
 module _ (last : ℕ → ℕ → List Mark) where
   marks-halves : (rs : List (List ℕ)) → marksIn last (evens rs) + marksIn last (odds rs) ≡ marksIn last rs
   unfolding evens marksIn
@@ -348,6 +335,12 @@ module _ (last : ℕ → ℕ → List Mark) (closes : Closes last) (w h : ℕ) (
       let d = bottom-even last closes w h px in
       inl (omega arith, omega arith, rw p (lower .rows))
 
+  -- both fields together count what each counts
+  counts : listedCounts w listing
+      ≡ plus (listedCounts w (placedRows last closes 8 (evens rows)))
+      (listedCounts w (placedRows last closes (8 + length top) (odds rows)))
+  counts = listed-weave w _ _ (paired .0) (paired .1)
+
   abbrev blocks : List Block
   blocks = block w h second fields wide w-most high h-most ∷ []
 
@@ -383,10 +376,9 @@ module _ (last : ℕ → ℕ → List Mark) (closes : Closes last) (w h : ℕ) (
             ∙ weave-whole rows)
             ∙ rows-joined w h px e;
         codes =
-            codes-weave (placedRows last closes 8 (evens rows)) (placedRows last closes (8 + length top) (odds rows)) paired
+            ap (λ (n : Counts). n .codes) counts
             ∙ omega (arith, upper second (omega arith) .count, lower .count, marks-halves last rows);
         clipped =
-            clipped-weave w (placedRows last closes 8 (evens rows)) (placedRows last closes (8 + length top) (odds rows))
-            paired
+            ap (λ (n : Counts). n .clipped) counts
             ∙ omega (arith, upper second (omega arith) .clipped, lower .clipped);
       }

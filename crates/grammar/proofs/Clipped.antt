@@ -1,6 +1,6 @@
 -- What a clipped code paints, and how many there are: one ends its row, so a row has one at most, and a picture no more
 -- than it has lines (FORMAT 5.11). Assumes nothing.
-use Prim.Native.Nat.{ℕ, suc, _+_, _-_, _≤_, _<_, min}
+use Prim.Native.Nat.{ℕ, suc, _+_, _-_, _≤_, _<_}
 use native.Mathlib.Omega.{arith}
 use mathlib.Core.Path.{_≡_, refl}
 use mathlib.Core.Bool.{Bool, true, false, not, cond, _&&_}
@@ -15,24 +15,23 @@ use Rattle.grammar.specs.Record.{Told, width, height}
 use Rattle.grammar.specs.Picture.{evens, odds, Stay0, IsPicture}
 use Rattle.grammar.specs.Reading.{Wanted, Reading, IsReading, shown}
 
--- a clipped code paints all that is left, and less than its run; any other that is no fill paints its whole run
-pub clipped-paints : (left : ℕ) (c : Code) → overshoots left c ≡ true → paints left c ≡ left
-unfolding overshoots paints
-clipped-paints left c h = go (fills c) (ltb left (run c)) refl h
+-- a clipped code is no fill, and its run is longer than what is left
+overshot : (left : ℕ) (c : Code) → overshoots left c ≡ true → (fills c ≡ false) × (left < run c)
+unfolding overshoots
+overshot left c h = go (fills c) (ltb left (run c)) refl refl h
   where
-    go : (f t : Bool) → ltb left (run c) ≡ t → (not f && t) ≡ true → cond f left (min left (run c)) ≡ left
-    go true t q e = refl
-    go false true q e = let l = ltb-true left (run c) q in omega arith
-    go false false q e = let z : _≡_ {A = ℕ} 0 1 = cc in absurd (omega arith)
+    go : (f t : Bool) → fills c ≡ f → ltb left (run c) ≡ t → (not f && t) ≡ true → (fills c ≡ false) × (left < run c)
+    go true t p q e = let z : _≡_ {A = ℕ} 0 1 = cc in absurd (omega arith)
+    go false true p q e = (p, ltb-true left (run c) q)
+    go false false p q e = let z : _≡_ {A = ℕ} 0 1 = cc in absurd (omega arith)
+
+-- it paints all that is left, and less than its run; any other code that is no fill paints its whole run
+pub clipped-paints : (left : ℕ) (c : Code) → overshoots left c ≡ true → paints left c ≡ left
+unfolding paints
+clipped-paints left c h = let o = overshot left c h in rw (o .0) (omega (arith, o .1))
 
 pub clipped-cut : (left : ℕ) (c : Code) → overshoots left c ≡ true → paints left c < run c
-unfolding overshoots
-clipped-cut left c h = go (fills c) (ltb left (run c)) refl h (clipped-paints left c h)
-  where
-    go : (f t : Bool) → ltb left (run c) ≡ t → (not f && t) ≡ true → paints left c ≡ left → paints left c < run c
-    go true t q e p = let z : _≡_ {A = ℕ} 0 1 = cc in absurd (omega arith)
-    go false true q e p = let l = ltb-true left (run c) q in omega arith
-    go false false q e p = let z : _≡_ {A = ℕ} 0 1 = cc in absurd (omega arith)
+clipped-cut left c h = omega (arith, clipped-paints left c h, overshot left c h .1)
 
 pub unclipped-whole : (left : ℕ) (c : Code) → fills c ≡ false → overshoots left c ≡ false → paints left c ≡ run c
 unfolding overshoots paints

@@ -1,7 +1,7 @@
 -- What a field's answer says in the grammar's words: it is accepted exactly where the grammar lists its rows and the map
 -- holds them, and the numbers of codes and of clipped ones and every pixel are the listed rows'; a refusal says which of
 -- the two failed. Assumes nothing.
-use Prim.Native.Nat.{ℕ, _-_, _*_, _≤_, _<_}
+use Prim.Native.Nat.{ℕ, _+_, _-_, _*_, _≤_, _<_}
 use native.Mathlib.Omega.{arith}
 use mathlib.Core.Path.{_≡_, refl, sym, ap, _∙_, subst}
 use mathlib.Core.Logic.{_⊎_, inl, inr, ⊎-elim}
@@ -14,11 +14,13 @@ use Rattle.grammar.specs.Rows.{Code, paints}
 use Rattle.grammar.specs.Pixels.{codesIn, clippedRow, clippedIn}
 use Rattle.rle_model.specs.Codes.{fieldAt}
 use Rattle.rle_model.specs.Field.{rowsFrom, paintField, decoded}
-use Rattle.rle_model.specs.Answers.{rowCounts, fieldCounts, fieldAnswer, Decoded, listedCounts}
+use Rattle.rle_model.specs.Answers.{plus, rowCounts, fieldCounts, fieldAnswer, Decoded, listedCounts}
+use Rattle.rle_model.specs.Fields.{weave}
 use Rattle.rle_model.specs.Claim.{Says}
 use Rattle.rle_model.specs.declared.FieldAnswer.{FieldAnswer}
 use Rattle.rle_model.proofs.Grammar.{field-iff}
 use Rattle.rle_model.proofs.Loops.{counts-eq}
+use Rattle.rle_model.proofs.Weave.{weave-counts}
 use Rattle.rle_model.proofs.Refusals.{field-refuses}
 
 -- the number of codes is how many the rows list
@@ -45,6 +47,12 @@ counts-clipped w (r ∷ rs) = omega (arith, row-clipped w r, counts-clipped w rs
 
 pub counts-listed : (w : ℕ) (rs : List (List Code)) → fieldCounts w rs ≡ listedCounts w rs
 counts-listed w rs = counts-eq (fieldCounts w rs) (listedCounts w rs) (counts-codes w rs) (counts-clipped w rs)
+
+-- rows of two fields woven count what both count, in the grammar's words
+pub listed-weave : (w : ℕ) (a b : List (List Code)) → length b ≤ length a → length a ≤ length b + 1
+    → listedCounts w (weave a b) ≡ plus (listedCounts w a) (listedCounts w b)
+listed-weave w a b h l =
+    sym (counts-listed w (weave a b)) ∙ sym (weave-counts w a b h l) ∙ (λ i. plus (counts-listed w a i) (counts-listed w b i))
 
 -- ---- The claim
 

@@ -25,6 +25,7 @@ use Rattle.ps_model.specs.declared.UnitAnswer.{UnitAnswer}
 use Rattle.ps_model.specs.declared.UnitAnswer.the-variants as unit-answer
 use Rattle.rle_model.specs.Field.{decoded, paintField}
 use Rattle.rle_model.specs.Answers.{fieldAnswer}
+use Rattle.rle_model.specs.declared.Counts.{Counts}
 use Rattle.rle_model.specs.declared.FieldAnswer.{FieldAnswer}
 use Rattle.rle_model.specs.declared.FieldAnswer.the-variants as field-answer
 use Rattle.idx_model.specs.Text.{textOf}
@@ -117,21 +118,17 @@ abbrev pub fieldRefusal : FieldAnswer → ℕ
 fieldRefusal (field-answer.Rows n) = 0
 fieldRefusal (field-answer.Refused k) = k
 
--- the number of codes, or the number that was there; and that of clipped ones
-abbrev pub fieldCodes : FieldAnswer → ℕ → ℕ
-fieldCodes (field-answer.Rows n) before = n .codes
-fieldCodes (field-answer.Refused k) before = before
-
-abbrev pub fieldClipped : FieldAnswer → ℕ → ℕ
-fieldClipped (field-answer.Rows n) before = n .clipped
-fieldClipped (field-answer.Refused k) before = before
+-- a number of what the rows count, or the number that was there
+abbrev pub fieldNumber : (Counts → ℕ) → FieldAnswer → ℕ → ℕ
+fieldNumber number (field-answer.Rows n) before = number n
+fieldNumber number (field-answer.Refused k) before = before
 
 pub record FieldDecoded (field : List ℕ) (w h start : ℕ) (pixels : List ℕ) (codes clipped r : ℕ) (pixels′ : List ℕ)
     (codes′ clipped′ : ℕ) : Type 0 where
   pub refusal : r ≡ fieldRefusal (fieldAnswer w (decoded field w h start pixels))
   pub returned : Returned (decoded field w h start pixels) r
-  pub codes-are : codes′ ≡ fieldCodes (fieldAnswer w (decoded field w h start pixels)) codes
-  pub clipped-are : clipped′ ≡ fieldClipped (fieldAnswer w (decoded field w h start pixels)) clipped
+  pub codes-are : codes′ ≡ fieldNumber (λ n. n .codes) (fieldAnswer w (decoded field w h start pixels)) codes
+  pub clipped-are : clipped′ ≡ fieldNumber (λ n. n .clipped) (fieldAnswer w (decoded field w h start pixels)) clipped
   pub stores : pixels′ ≡ paintField w (start * w) (listed (decoded field w h start pixels)) pixels
 
 abbrev pub spuRefusal : SpuAnswer → ℕ

@@ -5,21 +5,21 @@ use mathlib.Core.List.{List}
 use borrow.Author.Needs.{needs}
 use Rattle.rle_model.specs.Answers.{Decoded}
 use Rattle.rle_model.specs.declared.FieldAnswer.{FieldAnswer}
-use Rattle.vobsub_c.specs.Answers.{fieldRefusal, fieldCodes, fieldClipped, FieldDecoded}
+use Rattle.vobsub_c.specs.Answers.{fieldRefusal, fieldNumber, FieldDecoded}
 use Rattle.vobsub_c.proofs.Returned.{field-returned}
 use Rattle.vobsub_c.proofs.vobsub_decode_rle_field.Statement.{statement}
 use Rattle.vobsub_c.proofs.vobsub_decode_rle_field.Tie as tie
 
 -- what is left where the layer's answer is known
 given : (f : List ℕ) (w h s : ℕ) (px px′ : List ℕ) (n m : ℕ) (a b : FieldAnswer) → a ≡ b → Decoded f w h s px a px′
-    → FieldDecoded f w h s px n m (fieldRefusal b) px′ (fieldCodes b n) (fieldClipped b m)
+    → FieldDecoded f w h s px n m (fieldRefusal b) px′ (fieldNumber (λ k. k .codes) b n) (fieldNumber (λ k. k .clipped) b m)
 given f w h s px px′ n m a b e q =
     let y = sym e ∙ q .answer in
     record {
       refusal = ap fieldRefusal y;
       returned = field-returned _ _ _ _ _ _ (ap fieldRefusal y);
-      codes-are = ap (λ (o : FieldAnswer). fieldCodes o n) y;
-      clipped-are = ap (λ (o : FieldAnswer). fieldClipped o m) y;
+      codes-are = ap (λ (o : FieldAnswer). fieldNumber (λ k. k .codes) o n) y;
+      clipped-are = ap (λ (o : FieldAnswer). fieldNumber (λ k. k .clipped) o m) y;
       stores = q .pixels;
     }
 
