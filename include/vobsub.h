@@ -86,7 +86,8 @@ enum { VOBSUB_PALETTE = 48 };
    starts_len numbers, and its position in the file to the front of positions, which has positions_len numbers; palette has VOBSUB_PALETTE
    bytes, and gets the palette, black where no entry is given; numbers has VOBSUB_INDEX_NUMBERS numbers. palette and numbers are not null, and
    the five regions do not overlap. Of starts and positions as many are written as there are cues; on a refusal (1 to 10) all four are as they
-   were. */
+   were. A text of no bytes, text_len 0, is one cue whose start and position are 0; it gives no size and no palette, and what palette gets is
+   grey: red, green and blue of entry i are 17 * i. No other text is read so: one of blanks alone has no cue, and its palette is black. */
 uint8_t vobsub_parse_idx(const uint8_t *text, size_t text_len,
                          int64_t *starts, size_t starts_len,
                          uint64_t *positions, size_t positions_len,
@@ -105,7 +106,7 @@ enum vobsub_cue_number {
 /* Finds one cue of an index text, the text_len bytes of a .idx file; cues are numbered from 0, and cue may be any number. *start is set to its
    start in microseconds; palette has VOBSUB_PALETTE bytes, and gets the text's palette; numbers has VOBSUB_CUE_NUMBERS numbers, and gets those
    of the cue. start, palette and numbers are not null, and the four regions do not overlap. Every line is checked all the same; on a refusal
-   (1 to 9, 11) *start, palette and numbers are as they were. */
+   (1 to 9, 11) *start, palette and numbers are as they were. A text of no bytes has cue 0 and no other, as for vobsub_parse_idx. */
 uint8_t vobsub_pick_cue(const uint8_t *text, size_t text_len,
                         size_t cue,
                         int64_t *start,
@@ -131,8 +132,8 @@ enum vobsub_shown_number {
    which has scratch_len bytes. *start is set to the cue's start in microseconds; numbers has VOBSUB_SHOWN_NUMBERS numbers, and gets those of the
    cue. start and numbers are not null, and the eight regions do not overlap. Of canvas 4 * width * height bytes are written, of pixels width *
    height, of words and scratch as many as the bands and the joined unit take. On a refusal (1 to 9, then 32, then 11 to 26) all are as they were,
-   but that after 15 to 26 a unit that packets hold is in the front of scratch. A unit has 65535 bytes at most, a picture 4096 by 4096
-   pixels. It takes up to 262 KiB of stack. */
+   but that after 15 to 26 a unit that packets hold is in the front of scratch. A text of no bytes has cue 0, at the front of file, painted in
+   greys as for vobsub_parse_idx. A unit has 65535 bytes at most, a picture 4096 by 4096 pixels. It takes up to 262 KiB of stack. */
 uint8_t vobsub_decode_cue(const uint8_t *text, size_t text_len,
                           const uint8_t *file, size_t file_len,
                           size_t cue, size_t stream,

@@ -1,6 +1,7 @@
 // Takes the original from beside the repository (or from the folder that VOBSUB_ORIGINAL names) into the build's own
 // folder: private items opened, and an adapter appended. Nothing else is changed, but in the copies that are meant to
-// differ: one that counts codes and clipped codes, and, with the feature `mutants`, one for each line of mutants.txt.
+// differ: one that counts codes and clipped codes, and, with the feature `mutants`, one for each line of mutants.txt,
+// of the original or of src/empty.rs.
 use std::env;
 use std::fs;
 use std::path::{Path, PathBuf};
@@ -74,7 +75,7 @@ fn main() {
     let path = folder.join("src/vobsub.rs");
     let library = repository.join("target/staticlib");
     println!("cargo:rerun-if-env-changed=VOBSUB_ORIGINAL");
-    for file in [&path, &library.join("libvobsub_c.a"), &here.join("mutants.txt"), &here.join("src/adapter.rs")] {
+    for file in [&path, &library.join("libvobsub_c.a"), &here.join("mutants.txt"), &here.join("src/adapter.rs"), &here.join("src/empty.rs")] {
         println!("cargo:rerun-if-changed={}", file.display());
     }
     println!("cargo:rustc-link-search=native={}", library.display());
@@ -88,6 +89,7 @@ fn main() {
     let counting = COUNTING.iter().fold(text.clone(), |text, (token, by)| changed(&text, "decode_rle_field", token, 1, by));
     modules += &write(&out, "counting", &counting, &adapter);
 
+    let empty = fs::read_to_string(here.join("src/empty.rs")).expect("empty.rs");
     modules += "pub const MUTANTS: &[(&str, crate::side::Side)] = &[\n";
     let mut mutants = String::new();
     if env::var("CARGO_FEATURE_MUTANTS").is_ok() {
@@ -96,11 +98,15 @@ fn main() {
             let parts: Vec<&str> = line.split('\t').collect();
             let [function, token, nth, by] = parts[..] else { panic!("a line of mutants.txt: {line}") };
             let name = format!("mutant_{i}");
-            let (from, function, side) = match function.strip_prefix("counting ") {
-                None => (&text, function, format!("{name}::adapter::SIDE")),
-                Some(function) => (&counting, function, format!("crate::side::Side {{ counting: {name}::adapter::COUNTING, ..original::adapter::SIDE }}")),
+            let (from, function, adapter, side) = match function.split_once(' ') {
+                None => (&text, function, &adapter[..], format!("{name}::adapter::SIDE")),
+                Some(("counting", function)) => {
+                    (&counting, function, &adapter[..], format!("crate::side::Side {{ counting: {name}::adapter::COUNTING, ..original::adapter::SIDE }}"))
+                }
+                Some(("empty", function)) => (&empty, function, "", format!("crate::side::Side {{ empty: {name}::EMPTY, ..original::adapter::SIDE }}")),
+                Some(_) => panic!("a line of mutants.txt: {line}"),
             };
-            mutants += &write(&out, &name, &changed(from, function, token, nth.parse().unwrap(), by), &adapter);
+            mutants += &write(&out, &name, &changed(from, function, token, nth.parse().unwrap(), by), adapter);
             modules += &format!("    ({:?}, {side}),\n", format!("{}: {token} ({nth}) for {by}", parts[0]));
         }
     }

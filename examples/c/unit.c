@@ -1,6 +1,7 @@
 /* Lists the unit of a stream at a position of a file: its record, its bands and its picture.
    unit [FILE POSITION [STREAM]]   (the position in hexadecimal; stream 0 where none is named)
-   Without words it lists the two languages of a small file of its own, and paints the cue of a small title in both. */
+   Without words it lists the two languages of a small file of its own, and paints the cue of a small title in both;
+   then the cue of the file with an empty index. */
 #include <inttypes.h>
 #include <stdio.h>
 #include <stdlib.h>
@@ -30,18 +31,18 @@ static const char index_text[] =
 static uint8_t scratch[65535], pixels[4096 * 4096];
 static uint16_t bands[65536];
 
-/* The line of a cue of the small title in one stream, with the number of its clipped codes, and its pixels as red,
-   green, blue and alpha. */
-static void paint(size_t cue, size_t stream)
+/* The line of a cue in one stream of the packets above under an index text, with the number of its clipped codes, and
+   its pixels as red, green, blue and alpha. */
+static void paint(const char *text, size_t text_len, size_t cue, size_t stream)
 {
     uint8_t canvas[16], refusal;
     uint64_t numbers[VOBSUB_SHOWN_NUMBERS];
     int64_t start;
     size_t i, x, y;
 
-    refusal = vobsub_decode_cue((const uint8_t *)index_text, sizeof index_text - 1, own, sizeof own, cue, stream, scratch, sizeof scratch,
+    refusal = vobsub_decode_cue((const uint8_t *)text, text_len, own, sizeof own, cue, stream, scratch, sizeof scratch,
                                 pixels, sizeof pixels, bands, sizeof bands / sizeof bands[0], canvas, sizeof canvas, &start, numbers);
-    printf("stream %zu, cue %zu: ", stream, cue);
+    printf("%sstream %zu, cue %zu: ", text_len == 0 ? "empty index, " : "", stream, cue);
     if (refusal != 0) {
         printf("refused %u\n", refusal);
         return;
@@ -144,8 +145,11 @@ int main(int count, char **words)
     for (i = 0; i < sizeof streams / sizeof streams[0]; i++)
         list(own, sizeof own, 0, streams[i]);
     for (i = 0; i < sizeof streams / sizeof streams[0]; i++)
-        paint(0, streams[i]);
+        paint(index_text, sizeof index_text - 1, 0, streams[i]);
     /* the title has one cue, so the next is refused */
-    paint(1, 0);
+    paint(index_text, sizeof index_text - 1, 1, 0);
+    /* an empty index is one cue at the front of the file, in greys */
+    paint(NULL, 0, 0, 0);
+    paint(NULL, 0, 1, 0);
     return 0;
 }

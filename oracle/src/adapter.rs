@@ -88,17 +88,12 @@ pub mod adapter {
         let there = |c: &(i64, u64)| (c.1 as usize) < file.len();
         let (position, place) = (cues[cue].1 as usize, cues[..cue].iter().filter(|c| there(c)).count());
         let (count, left_out) = (cues.len(), cues.iter().filter(|c| !there(c)).count());
-        let mut colours = [[0; 3]; 16];
-        for (colour, from) in colours.iter_mut().zip(index.palette.chunks(3)) {
-            colour.copy_from_slice(from);
-        }
-        let idx = VobSubIdx::default().with_palette_rgb(colours).with_cues(cues);
-        let mut packets = build_packets(&idx, file);
+        let mut packets = build_packets(&VobSubIdx::default().with_cues(cues), file);
         if position >= file.len() && packets.len() + left_out == count {
             return Seen::Skipped;
         }
         let packet = packets.remove(place).expect("a packet");
-        let shows = painted(&idx, &packet);
+        let shows = painted(&index.palette, &packet);
         let rest = &file[position..];
         match extract_spu(rest) {
             None => Seen::None { handed_on: packet.data == rest, refused: shows.is_err() },
@@ -106,10 +101,10 @@ pub mod adapter {
         }
     }
 
-    // what the decoder, made with the palette as the original hands it on, gives of a packet
-    fn painted(idx: &VobSubIdx, packet: &Packet) -> std::result::Result<Box<Painted>, String> {
+    // what the decoder, made with the palette as the original hands it on or with none, gives of a packet
+    fn painted(palette: &[u8], packet: &Packet) -> std::result::Result<Box<Painted>, String> {
         let mut params = CodecParameters::video(CodecId::new(crate::VOBSUB_CODEC_ID));
-        params.extradata = idx.palette_rgb.concat();
+        params.extradata = palette.to_vec();
         let mut decoder = make_decoder(&params).map_err(|e| e.to_string())?;
         decoder.send_packet(packet).map_err(|e| e.to_string())?;
         let Ok(Frame::Video(frame)) = decoder.receive_frame() else { return Err("no frame".into()) };
@@ -123,5 +118,18 @@ pub mod adapter {
     }
 
     pub const COUNTING: Counting = Counting { field, unit };
-    pub const SIDE: Side = Side { pes_body, spot, bands, field, unit, positions, index, duration, seen, write: build_demo_spu, counting: crate::counting::adapter::COUNTING };
+    pub const SIDE: Side = Side {
+        pes_body,
+        spot,
+        bands,
+        field,
+        unit,
+        positions,
+        index,
+        duration,
+        seen,
+        write: build_demo_spu,
+        counting: crate::counting::adapter::COUNTING,
+        empty: crate::empty::EMPTY,
+    };
 }

@@ -57,6 +57,8 @@ pub struct Outcome {
     pub rule: Option<&'static str>,
     // A rule under which the original was asked about other bytes than the port, and followed; `rule` may apply besides.
     pub copied: Option<&'static str>,
+    // The rule of the text of no bytes, about which the original was not asked; the other two may apply besides.
+    pub empty: Option<&'static str>,
     // What the request is counted for, by the names in the class's `met`.
     pub met: Vec<&'static str>,
     // Where the two differ.
@@ -66,6 +68,10 @@ pub struct Outcome {
 }
 
 impl Outcome {
+    pub fn rules(&self) -> impl Iterator<Item = &'static str> {
+        [self.rule, self.copied, self.empty].into_iter().flatten()
+    }
+
     // Notes a difference unless the condition holds.
     pub fn must(&mut self, holds: bool, what: impl FnOnce() -> String) {
         if !holds && self.differs.is_none() {

@@ -1,6 +1,7 @@
 // The original beside the port: what both are asked, and how their answers are compared.
 pub mod classes;
 pub mod class;
+pub mod empty;
 pub mod oxideav_core;
 pub mod port;
 pub mod random;

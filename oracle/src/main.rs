@@ -34,7 +34,8 @@ struct Tally {
     refusals: BTreeMap<u8, u64>,
     refusals_generated: BTreeMap<u8, u64>,
     rules: BTreeMap<&'static str, u64>,
-    by_two_rules: u64,
+    // how many requests are under no rule, one, two and three
+    under: [u64; 4],
     met: BTreeMap<&'static str, u64>,
     met_generated: BTreeMap<&'static str, u64>,
     panics: BTreeMap<String, (u64, Request)>,
@@ -49,10 +50,10 @@ impl Tally {
         if generated {
             *self.refusals_generated.entry(o.refusal).or_default() += 1;
         }
-        for rule in o.rule.into_iter().chain(o.copied) {
+        for rule in o.rules() {
             *self.rules.entry(rule).or_default() += 1;
         }
-        self.by_two_rules += (o.rule.is_some() && o.copied.is_some()) as u64;
+        self.under[o.rules().count()] += 1;
         for &what in &o.met {
             *self.met.entry(what).or_default() += 1;
             *self.met_generated.entry(what).or_default() += generated as u64;
@@ -83,8 +84,10 @@ impl Tally {
         for (rule, count) in &self.rules {
             println!("    by rule, {count}: {rule}");
         }
-        if self.by_two_rules > 0 {
-            println!("    by rule in all, {}, as {} are under two", self.rules.values().sum::<u64>() - self.by_two_rules, self.by_two_rules);
+        let [_, one, two, three] = self.under;
+        if two + three > 0 {
+            let more = if three > 0 { format!(" and {three} under three") } else { String::new() };
+            println!("    by rule in all, {}, as {two} are under two{more}", one + two + three);
         }
         for (what, count) in &self.met {
             println!("    met {count} times: {what}");
@@ -189,7 +192,10 @@ fn ask(words: &[String]) {
     std::panic::set_hook(Box::new(|_| {}));
     let o = (class.compare)(&oracle::original::adapter::SIDE, &q);
     println!("the port says {}; accepted by both: {}", o.refusal, o.both);
-    for (name, what) in [("rule", o.rule.map(String::from)), ("rule", o.copied.map(String::from)), ("the original panicked", o.panicked), ("DIFFERS", o.differs)] {
+    for rule in o.rules() {
+        println!("rule: {rule}");
+    }
+    for (name, what) in [("the original panicked", o.panicked), ("DIFFERS", o.differs)] {
         if let Some(what) = what {
             println!("{name}: {what}");
         }

@@ -1,4 +1,5 @@
 // The original in the terms in which both sides are compared.
+use crate::empty::NO_BYTES;
 use crate::port::NUMBERS;
 
 // What the original has at a position of a file.
@@ -62,10 +63,12 @@ pub struct Side {
     pub index: fn(&str) -> Result<Index, String>,
     // The duration of a cue with this start, if another with that start follows it.
     pub duration: fn(i64, Option<i64>) -> Option<i64>,
-    // The cue with that number; `alone` leaves out all others, and with them its duration.
+    // The cue with that number; `alone` leaves out all others, and with them its duration. The decoder is made with
+    // the index's palette, which may have no bytes.
     pub seen: fn(&Index, &[u8], usize, bool) -> Seen,
     pub write: fn(u16, u16, &[u8]) -> Vec<u8>,
     pub counting: Counting,
+    pub empty: Empty,
 }
 
 // The copy that counts codes, which the original does not: called in `counted`.
@@ -73,6 +76,23 @@ pub struct Side {
 pub struct Counting {
     pub field: fn(&[u8], usize, usize, usize, &mut [u8]) -> Result<(), String>,
     pub unit: fn(&[u8]) -> Result<Decoded, String>,
+}
+
+// The text of no bytes, about which the original is not asked.
+#[derive(Clone, Copy)]
+pub struct Empty {
+    // Whether a text is that one.
+    pub no_bytes: fn(&[u8]) -> bool,
+    // Whether buffers of so many starts and positions have room for its cue.
+    pub has_room: fn(usize, usize) -> bool,
+    pub index: fn() -> Index,
+}
+
+impl Empty {
+    // The rule, where the text is that one.
+    pub fn rule(&self, text: &[u8]) -> Option<&'static str> {
+        (self.no_bytes)(text).then_some(NO_BYTES)
+    }
 }
 
 // The refusal that a message of the original stands for, by a part of the message. The first part that is found counts.

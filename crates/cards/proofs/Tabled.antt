@@ -1,5 +1,6 @@
--- Every card of the table holds: one computation over those of bytes and one over those of lines, the title of 2 by 2 in three steps, its
--- canvas from its reading, and each card from these. Assumes nothing.
+-- Every card of the table holds: one computation over those of bytes and one over those of lines, the title of 2 by 2 in
+-- three steps, with its index and with one of no bytes, its canvas from its reading, and each card from these.
+-- Assumes nothing.
 use Prim.Native.Nat.{ℕ}
 use mathlib.Core.Path.{_≡_, refl, sym, ap, ap₂, _∙_}
 use mathlib.Core.Bool.{true}
@@ -30,9 +31,9 @@ use Rattle.grammar.specs.Index.{startOf}
 use Rattle.idx_numbers_model.specs.Parts.{front, rest, all, shorn, trim, split, strip}
 use Rattle.idx_numbers_model.specs.Times.{checked}
 use Rattle.idx_numbers_model.specs.Numbers.{unsigned, signed, bare}
-use Rattle.grammar.specs.IndexCues.{cuesOf, cueAt, durationOf}
+use Rattle.grammar.specs.IndexCues.{cuesOfLines, cueAt, durationOf}
 use Rattle.idx_lines_model.specs.Lines.{steps, firstOf, lastOf, partsAt}
-use Rattle.idx_model.specs.Text.{linesIn, textIn}
+use Rattle.idx_model.specs.Text.{linesIn, textIn, idxIn}
 use Rattle.listing_model.specs.Lines.{digitsIn, decimal, shownLine, refusedLine, cuesLine, fileLine}
 use Rattle.listing_model.specs.Title.{unitFor, shownFor, readable, cuesIn, cueLines, titleLines}
 use Rattle.idx_lines_model.specs.Lines as text-lines
@@ -46,7 +47,7 @@ use Rattle.grammar.specs.Reading.{wanted, wordsOf}
 use Rattle.grammar.proofs.Readings as readings
 use Rattle.vobsub_model.specs.Call.{lent}
 use Rattle.vobsub_model.proofs.Claim.{reading-iff}
-use Rattle.cards.specs.Table.{Card, code, reader, field, fields, unit, found, held, written, upper, position, start, stamped, hours-stand, hours-leave, small-text, small-file, small-cue, small-shown, shows, cue, title, small-title, small-painted, bytes, lines, table}
+use Rattle.cards.specs.Table.{Card, code, reader, field, fields, unit, found, held, written, upper, position, start, stamped, hours-stand, hours-leave, small-text, small-file, cueFrom, shownFrom, shows, cue, title, small-title, small-painted, alone-title, alone-painted, bytes, lines, table}
 
 abbrev gotOf : List Card → List (List ℕ)
 gotOf = map (λ (c : Card). c .got)
@@ -59,29 +60,29 @@ unfolding bytes code reader field fields unit found held unitFor written upper e
 bytes-hold = refl
 
 lines-hold : gotOf lines ≡ wantOf lines
-unfolding lines titleLines cueLines front rest shorn trim strip checked cuesOf cueAt durationOf firstOf lastOf partsAt text-lines.lineOf linesIn textIn digitsIn decimal shownLine refusedLine cuesLine fileLine unitFor shownFor code field fields unit found written upper evens runs cut marksOf digits nibblesOf packed pictureRows fieldNibbles allColours pictureOk sizedUnit demoAt demo.unitOf position start numeral startOf all split unsigned signed bare text-lines.fields steps timeAt joined unitOf leading header1At headerAt bodyAt keptAt packAt privateAt kindAt packetAt packetsAt isBare formAt ps-unit.unitAt streamUnit listFuel listFrom word nibble nibbles paints overshoots afterCodes align rowPixels codesIn clippedRow clippedIn indexMap topEnd codeFrom codeAt rowAt fieldAt rowsFrom paintField decoded rowCounts fieldCounts weave lowerAt fieldsAt plainAt changeAt orderAt commandAt commandsAt blockAt blocksAt headFits chainAt controlAt spuOf entryWords bandWords rowsAt unitAt told commandsOf commandsIn firstDelay lastDelay lastNumbers stands allBands
+unfolding lines titleLines cueLines front rest shorn trim strip checked cuesOfLines cueAt durationOf firstOf lastOf partsAt text-lines.lineOf linesIn textIn idxIn digitsIn decimal shownLine refusedLine cuesLine fileLine unitFor shownFor code field fields unit found written upper evens runs cut marksOf digits nibblesOf packed pictureRows fieldNibbles allColours pictureOk sizedUnit demoAt demo.unitOf position start numeral startOf all split unsigned signed bare text-lines.fields steps timeAt joined unitOf leading header1At headerAt bodyAt keptAt packAt privateAt kindAt packetAt packetsAt isBare formAt ps-unit.unitAt streamUnit listFuel listFrom word nibble nibbles paints overshoots afterCodes align rowPixels codesIn clippedRow clippedIn indexMap topEnd codeFrom codeAt rowAt fieldAt rowsFrom paintField decoded rowCounts fieldCounts weave lowerAt fieldsAt plainAt changeAt orderAt commandAt commandsAt blockAt blocksAt headFits chainAt controlAt spuOf entryWords bandWords rowsAt unitAt told commandsOf commandsIn firstDelay lastDelay lastNumbers stands allBands
 lines-hold = refl
 
 -- a time at the end of its range, and one past it
 stand-holds : hours-stand .got ≡ hours-stand .want
-unfolding hours-stand stamped front rest shorn trim strip checked cuesOf cueAt durationOf firstOf lastOf partsAt text-lines.lineOf linesIn textIn numeral startOf all split unsigned signed bare text-lines.fields steps timeAt
+unfolding hours-stand stamped front rest shorn trim strip checked cuesOfLines cueAt durationOf firstOf lastOf partsAt text-lines.lineOf linesIn textIn idxIn numeral startOf all split unsigned signed bare text-lines.fields steps timeAt
 stand-holds = refl
 
 leave-holds : hours-leave .got ≡ hours-leave .want
-unfolding hours-leave stamped front rest shorn trim strip checked cuesOf cueAt durationOf firstOf lastOf partsAt text-lines.lineOf linesIn textIn numeral startOf all split unsigned signed bare text-lines.fields steps timeAt
+unfolding hours-leave stamped front rest shorn trim strip checked cuesOfLines cueAt durationOf firstOf lastOf partsAt text-lines.lineOf linesIn textIn idxIn numeral startOf all split unsigned signed bare text-lines.fields steps timeAt
 leave-holds = refl
 
--- the title of 2 by 2: its cues, and its line
-small-cues : cuesIn small-text ≡ ok (small-cue ∷ [])
-unfolding small-text front rest shorn trim strip checked cuesOf cueAt durationOf firstOf lastOf partsAt text-lines.lineOf linesIn textIn digitsIn decimal shownLine refusedLine cuesLine fileLine unitFor shownFor code field fields unit found written upper evens runs cut marksOf digits nibblesOf packed pictureRows fieldNibbles allColours pictureOk sizedUnit demoAt demo.unitOf position start numeral startOf all split unsigned signed bare text-lines.fields steps timeAt joined unitOf leading header1At headerAt bodyAt keptAt packAt privateAt kindAt packetAt packetsAt isBare formAt ps-unit.unitAt streamUnit listFuel listFrom word nibble nibbles paints overshoots afterCodes align rowPixels codesIn clippedRow clippedIn indexMap topEnd codeFrom codeAt rowAt fieldAt rowsFrom paintField decoded rowCounts fieldCounts weave lowerAt fieldsAt plainAt changeAt orderAt commandAt commandsAt blockAt blocksAt headFits chainAt controlAt spuOf entryWords bandWords rowsAt unitAt told commandsOf commandsIn firstDelay lastDelay lastNumbers stands allBands
+-- the title of 2 by 2: its cues, what is shown of its unit from any start on, and its line
+small-cues : cuesIn small-text ≡ ok (cueFrom 1000000 ∷ [])
+unfolding small-text front rest shorn trim strip checked cuesOfLines cueAt durationOf firstOf lastOf partsAt text-lines.lineOf linesIn textIn idxIn digitsIn decimal shownLine refusedLine cuesLine fileLine unitFor shownFor code field fields unit found written upper evens runs cut marksOf digits nibblesOf packed pictureRows fieldNibbles allColours pictureOk sizedUnit demoAt demo.unitOf position start numeral startOf all split unsigned signed bare text-lines.fields steps timeAt joined unitOf leading header1At headerAt bodyAt keptAt packAt privateAt kindAt packetAt packetsAt isBare formAt ps-unit.unitAt streamUnit listFuel listFrom word nibble nibbles paints overshoots afterCodes align rowPixels codesIn clippedRow clippedIn indexMap topEnd codeFrom codeAt rowAt fieldAt rowsFrom paintField decoded rowCounts fieldCounts weave lowerAt fieldsAt plainAt changeAt orderAt commandAt commandsAt blockAt blocksAt headFits chainAt controlAt spuOf entryWords bandWords rowsAt unitAt told commandsOf commandsIn firstDelay lastDelay lastNumbers stands allBands
 small-cues = refl
 
-small-shows : shownFor (small-cue ∷ []) small-file 0 ≡ ok small-shown
-unfolding small-file front rest shorn trim strip checked cuesOf cueAt durationOf firstOf lastOf partsAt text-lines.lineOf linesIn textIn digitsIn decimal shownLine refusedLine cuesLine fileLine unitFor shownFor code field fields unit found written upper evens runs cut marksOf digits nibblesOf packed pictureRows fieldNibbles allColours pictureOk sizedUnit demoAt demo.unitOf position start numeral startOf all split unsigned signed bare text-lines.fields steps timeAt joined unitOf leading header1At headerAt bodyAt keptAt packAt privateAt kindAt packetAt packetsAt isBare formAt ps-unit.unitAt streamUnit listFuel listFrom word nibble nibbles paints overshoots afterCodes align rowPixels codesIn clippedRow clippedIn indexMap topEnd codeFrom codeAt rowAt fieldAt rowsFrom paintField decoded rowCounts fieldCounts weave lowerAt fieldsAt plainAt changeAt orderAt commandAt commandsAt blockAt blocksAt headFits chainAt controlAt spuOf entryWords bandWords rowsAt unitAt told commandsOf commandsIn firstDelay lastDelay lastNumbers stands allBands
-small-shows = refl
+unit-shows : (z : ℕ) → shownFor (cueFrom z ∷ []) small-file 0 ≡ ok (shownFrom z)
+unfolding small-file front rest shorn trim strip checked cuesOfLines cueAt durationOf firstOf lastOf partsAt text-lines.lineOf linesIn textIn idxIn digitsIn decimal shownLine refusedLine cuesLine fileLine unitFor shownFor code field fields unit found written upper evens runs cut marksOf digits nibblesOf packed pictureRows fieldNibbles allColours pictureOk sizedUnit demoAt demo.unitOf position start numeral startOf all split unsigned signed bare text-lines.fields steps timeAt joined unitOf leading header1At headerAt bodyAt keptAt packAt privateAt kindAt packetAt packetsAt isBare formAt ps-unit.unitAt streamUnit listFuel listFrom word nibble nibbles paints overshoots afterCodes align rowPixels codesIn clippedRow clippedIn indexMap topEnd codeFrom codeAt rowAt fieldAt rowsFrom paintField decoded rowCounts fieldCounts weave lowerAt fieldsAt plainAt changeAt orderAt commandAt commandsAt blockAt blocksAt headFits chainAt controlAt spuOf entryWords bandWords rowsAt unitAt told commandsOf commandsIn firstDelay lastDelay lastNumbers stands allBands
+unit-shows z = refl
 
-small-line : (cuesLine 1 ++ (shownLine 0 small-shown ++ [])) ≡ small-title .want
-unfolding small-title front rest shorn trim strip checked cuesOf cueAt durationOf firstOf lastOf partsAt text-lines.lineOf linesIn textIn digitsIn decimal shownLine refusedLine cuesLine fileLine unitFor shownFor code field fields unit found written upper evens runs cut marksOf digits nibblesOf packed pictureRows fieldNibbles allColours pictureOk sizedUnit demoAt demo.unitOf position start numeral startOf all split unsigned signed bare text-lines.fields steps timeAt joined unitOf leading header1At headerAt bodyAt keptAt packAt privateAt kindAt packetAt packetsAt isBare formAt ps-unit.unitAt streamUnit listFuel listFrom word nibble nibbles paints overshoots afterCodes align rowPixels codesIn clippedRow clippedIn indexMap topEnd codeFrom codeAt rowAt fieldAt rowsFrom paintField decoded rowCounts fieldCounts weave lowerAt fieldsAt plainAt changeAt orderAt commandAt commandsAt blockAt blocksAt headFits chainAt controlAt spuOf entryWords bandWords rowsAt unitAt told commandsOf commandsIn firstDelay lastDelay lastNumbers stands allBands
+small-line : (cuesLine 1 ++ (shownLine 0 (shownFrom 1000000) ++ [])) ≡ small-title .want
+unfolding small-title front rest shorn trim strip checked cuesOfLines cueAt durationOf firstOf lastOf partsAt text-lines.lineOf linesIn textIn idxIn digitsIn decimal shownLine refusedLine cuesLine fileLine unitFor shownFor code field fields unit found written upper evens runs cut marksOf digits nibblesOf packed pictureRows fieldNibbles allColours pictureOk sizedUnit demoAt demo.unitOf position start numeral startOf all split unsigned signed bare text-lines.fields steps timeAt joined unitOf leading header1At headerAt bodyAt keptAt packAt privateAt kindAt packetAt packetsAt isBare formAt ps-unit.unitAt streamUnit listFuel listFrom word nibble nibbles paints overshoots afterCodes align rowPixels codesIn clippedRow clippedIn indexMap topEnd codeFrom codeAt rowAt fieldAt rowsFrom paintField decoded rowCounts fieldCounts weave lowerAt fieldsAt plainAt changeAt orderAt commandAt commandsAt blockAt blocksAt headFits chainAt controlAt spuOf entryWords bandWords rowsAt unitAt told commandsOf commandsIn firstDelay lastDelay lastNumbers stands allBands
 small-line = refl
 
 small-readable : readable true small-text small-file ≡ true
@@ -90,7 +91,7 @@ small-readable = refl
 
 small-holds : small-title .got ≡ small-title .want
 unfolding small-title title titleLines cueLines
-small-holds = rw (small-readable, small-cues, small-shows) small-line
+small-holds = rw (small-readable, small-cues, unit-shows 1000000) small-line
 
 -- its reading is a closed term that passes the grammar, and so the one that is found
 small-paints : small-painted .got ≡ small-painted .want
@@ -99,6 +100,37 @@ small-paints =
     rw (reading-iff small-text small-file (wanted 0 0) (lent [] (replicate 4 9) [] (replicate 16 9)) readings.small .1
     (readings.small-passes 0 (omega arith), record { for-unit = omega arith; for-map = omega arith; for-bands = omega (arith, ap length readings.small-words); for-canvas = omega arith }))
     (λ i. 0 ∷ shows (readings.small-shown i) ++ readings.small-canvas i)
+
+-- the same file with an index of no bytes
+alone-cues : cuesIn [] ≡ ok (cueFrom 0 ∷ [])
+unfolding idxIn
+alone-cues = refl
+
+alone-line : (cuesLine 1 ++ (shownLine 0 (shownFrom 0) ++ [])) ≡ alone-title .want
+unfolding alone-title cuesLine shownLine decimal digitsIn
+alone-line = refl
+
+alone-readable : readable true [] small-file ≡ true
+unfolding small-file
+alone-readable = refl
+
+alone-holds : alone-title .got ≡ alone-title .want
+unfolding alone-title title titleLines cueLines
+alone-holds = rw (alone-readable, alone-cues, unit-shows 0) alone-line
+
+alone-paints : alone-painted .got ≡ alone-painted .want
+unfolding alone-painted cue small-file wordsOf told commandsOf commandsIn firstDelay lastDelay lastNumbers stands allBands
+alone-paints =
+    rw (reading-iff [] small-file (wanted 0 0) (lent [] (replicate 4 9) [] (replicate 16 9)) readings.alone .1 (
+      readings.alone-passes 0 (omega arith),
+      record {
+        for-unit = omega arith;
+        for-map = omega arith;
+        for-bands = omega (arith, ap length readings.alone-words);
+        for-canvas = omega arith;
+      },
+    ))
+    (λ i. 0 ∷ shows (readings.alone-shown i) ++ readings.alone-canvas i)
 
 map-both : (f : Card → List ℕ) (a b : List Card) → map f (a ++ b) ≡ map f a ++ map f b
 map-both f [] b = refl
@@ -119,7 +151,9 @@ tabled =
     (first leave-holds
     (first small-paints
     (first small-holds
-    (map-both (λ (c : Card). c .got) bytes lines ∙ ap₂ (λ (a b : List (List ℕ)). a ++ b) bytes-hold lines-hold ∙ sym (map-both (λ (c : Card). c .want) bytes lines)))))
+    (first alone-paints
+    (first alone-holds
+    (map-both (λ (c : Card). c .got) bytes lines ∙ ap₂ (λ (a b : List (List ℕ)). a ++ b) bytes-hold lines-hold ∙ sym (map-both (λ (c : Card). c .want) bytes lines)))))))
 
 pub each : (k : ℕ) → getD got k [] ≡ getD want k []
 each k = ap (λ (l : List (List ℕ)). getD l k []) tabled

@@ -151,13 +151,24 @@ small-file =
     0x00 ∷ 0x21 ∷ 0x00 ∷ 0x09 ∷ 0x00 ∷ 0x01 ∷ 0x60 ∷ 0x00 ∷ 0x30 ∷ 0x00 ∷ 0x00 ∷ 0x00 ∷ 0x09 ∷ 0x03 ∷ 0x01 ∷ 0x32 ∷ 0x04 ∷ 0x0F ∷ 0xFF ∷ 0x05 ∷ 0x00 ∷ 0x00 ∷ 0x01 ∷ 0x00 ∷ 0x00
     ∷ 0x01 ∷ 0x06 ∷ 0x00 ∷ 0x04 ∷ 0x00 ∷ 0x06 ∷ 0x01 ∷ 0xFF ∷ []
 
--- its one cue
-abbrev pub small-cue : Cue
-small-cue = record { start = pos 1000000; position = 0 }
+-- a cue for that unit, from z on, and what is shown of it
+abbrev pub cueFrom : ℕ → Cue
+cueFrom z = record { start = pos z; position = 0 }
 
--- and what is shown of it
-abbrev pub small-shown : Shown
-small-shown = record { start = pos 1000000; duration = none; start-delay = 0; stop-delay = 0; x1 = 0; y1 = 0; width = 2; height = 2; codes = 3; clipped = 0 }
+abbrev pub shownFrom : ℕ → Shown
+shownFrom z =
+    record {
+      start = pos z;
+      duration = none;
+      start-delay = 0;
+      stop-delay = 0;
+      x1 = 0;
+      y1 = 0;
+      width = 2;
+      height = 2;
+      codes = 3;
+      clipped = 0;
+    }
 
 -- the first cue of a text and a file, with so much of each buffer lent: start, whether it lasts and how long, both
 -- delays, origin, size, the numbers of codes and of clipped ones, and the canvas (FORMAT 6)
@@ -277,6 +288,19 @@ small-painted =
     card (cue small-text small-file (lent [] (replicate 4 9) [] (replicate 16 9)))
     (0 ∷ 0 ∷ 1000000 ∷ 0 ∷ 0 ∷ 0 ∷ 0 ∷ 0 ∷ 2 ∷ 2 ∷ 3 ∷ 0 ∷ 0 ∷ 0 ∷ 0 ∷ 255 ∷ 0 ∷ 0 ∷ 0 ∷ 255 ∷ 0 ∷ 0 ∷ 0 ∷ 255 ∷ 0 ∷ 0 ∷ 0 ∷ 255 ∷ [])
 
+-- both with an index of no bytes: `cues 1` and `0 0 - 0 0 2 2 0 0 3`, and the canvas in greys
+unfoldable pub alone-title : Card
+alone-title =
+    card (title [] small-file)
+    (99 ∷ 117 ∷ 101 ∷ 115 ∷ 32 ∷ 49 ∷ 10
+    ∷ 48 ∷ 32 ∷ 48 ∷ 32 ∷ 45 ∷ 32 ∷ 48 ∷ 32 ∷ 48 ∷ 32 ∷ 50 ∷ 32 ∷ 50 ∷ 32 ∷ 48 ∷ 32 ∷ 48 ∷ 32 ∷ 51 ∷ 10 ∷ [])
+
+unfoldable pub alone-painted : Card
+alone-painted =
+    card (cue [] small-file (lent [] (replicate 4 9) [] (replicate 16 9)))
+    (0 ∷ 0 ∷ 0 ∷ 0 ∷ 0 ∷ 0 ∷ 0 ∷ 0 ∷ 2 ∷ 2 ∷ 3 ∷ 0
+    ∷ 17 ∷ 17 ∷ 17 ∷ 255 ∷ 17 ∷ 17 ∷ 17 ∷ 255 ∷ 51 ∷ 51 ∷ 51 ∷ 255 ∷ 34 ∷ 34 ∷ 34 ∷ 255 ∷ [])
+
 -- 2562047788 hours in a timestamp, and one hour more
 unfoldable pub hours-stand : Card
 hours-stand = card (stamped 56) (0 ∷ 0 ∷ 9223372036800000000 ∷ [])
@@ -286,4 +310,4 @@ hours-leave = card (stamped 57) (8 ∷ [])
 
 -- all of them
 abbrev pub table : List Card
-table = hours-stand ∷ hours-leave ∷ small-painted ∷ small-title ∷ bytes ++ lines
+table = hours-stand ∷ hours-leave ∷ small-painted ∷ small-title ∷ alone-painted ∷ alone-title ∷ bytes ++ lines

@@ -1,20 +1,24 @@
 -- The final theorems. Each takes what the contract of a function says, an equation for its answer and for the last content of what was lent, and
 -- gives what that means in the grammar's words. Assumes nothing.
-use Prim.Native.Nat.{ℕ, _≤_, _<_}
+use Prim.Native.Nat.{ℕ, _+_, _*_, _≤_, _<_, min}
 use mathlib.Core.Path.{_≡_}
 use mathlib.Core.Bool.{Bool, true, false}
+use mathlib.Core.Logic.{_↔_}
+use mathlib.Core.Option.{none}
 use mathlib.Core.List.{List, []}
-use lib.ListN.{length}
+use lib.ListN.{length, getD, set, replicate}
 use lib.Seq.{sets}
-use lib.IntN.{ℤ}
+use lib.IntN.{ℤ, pos}
+use Rattle.outcome.specs.Outcome.{short-cues, no-cue}
 use Rattle.grammar.specs.Bands.{Band, Bands}
-use Rattle.grammar.specs.Index.{Said, IsText}
-use Rattle.grammar.specs.IndexCues.{Cue}
-use Rattle.grammar.specs.Packets.{Packet, Form, IsForm, streamId}
+use Rattle.grammar.specs.IndexParts.{blank, All}
+use Rattle.grammar.specs.Index.{greys, ListedText, of-lines, no-bytes, IsText}
+use Rattle.grammar.specs.IndexCues.{Cue, paletteOf, hasPalette}
+use Rattle.grammar.specs.Packets.{Packet, Form, IsForm, unitOf, streamId, top-stream}
 use Rattle.grammar.specs.Picture.{ListedUnit, IsUnit}
 use Rattle.grammar.specs.Pixels.{clippedIn}
 use Rattle.grammar.specs.Record.{width}
-use Rattle.grammar.specs.Reading.{Wanted, Reading, IsReading, toldBy, shown}
+use Rattle.grammar.specs.Reading.{Wanted, wantedId, Reading, IsReading, toldBy, shown, unitCanvas, canvasOf}
 use Rattle.grammar.specs.Streams.{Walk, Alike}
 use Rattle.grammar.specs.Rows.{Code, run, fills, paints, overshoots, FieldRows}
 use Rattle.grammar.proofs.Unique.{field-unique, bands-unique}
@@ -23,6 +27,7 @@ use Rattle.grammar.proofs.UniqueIndex.{text-unique}
 use Rattle.grammar.proofs.UniquePackets.{form-unique}
 use Rattle.grammar.proofs.Clipped.{clipped-paints, clipped-cut, unclipped-whole, clipped-reading-most}
 use Rattle.grammar.proofs.Streams.{walk-same}
+use Rattle.grammar.proofs.NoBytes.{no-bytes-listed, no-bytes-reading, no-bytes-read, grey-rule, bytes-black}
 use Rattle.rle_model.specs.declared.FieldAnswer.{FieldAnswer}
 use Rattle.rle_model.specs.Answers as field
 use Rattle.rle_model.specs.Claim as field-claim
@@ -38,10 +43,11 @@ use Rattle.ps_model.proofs.Claim as ps-proof
 use Rattle.ps_model.proofs.Streams.{walk-there}
 use Rattle.idx_model.specs.declared.IdxAnswer.{IdxAnswer}
 use Rattle.idx_model.specs.declared.CueAnswer.{CueAnswer}
-use Rattle.idx_model.specs.Text.{textOf}
+use Rattle.idx_model.specs.Text.{idxOf}
 use Rattle.idx_model.specs.Answers.{IdxRead, pickOf, cueAnswer}
 use Rattle.idx_model.specs.Claim.{IdxSays, CueSays}
 use Rattle.idx_model.proofs.Claim.{idx-claim, cue-claim}
+use Rattle.idx_model.proofs.NoBytes.{read-short, read-stored, picked-first, picked-other, blanks-listed, blanks-unread}
 use Rattle.spu_model.specs.declared.SpuAnswer.{SpuAnswer}
 use Rattle.spu_model.specs.Unit.{unitAt}
 use Rattle.spu_model.specs.Answers as unit
@@ -140,17 +146,76 @@ a-payload s at ws r ws′ d = bands-proof.claim s at ws r ws′ d
 pub one-payload : (u : List ℕ) (e p : ℕ) (a b : List Band) → Bands u e p a → Bands u e p b → a ≡ b
 one-payload = bands-unique
 
--- An index text (`parse_idx`), and one cue of it (`pick_cue`): accepted exactly where the grammar lists its lines and there is room for its cues,
--- and where these have the cue; all that is given is the listed lines'.
+-- An index text (`parse_idx`), and one cue of it (`pick_cue`): accepted exactly where the grammar lists it and there is
+-- room for its cues, and where it has the cue; all that is given is the listed text's.
 pub a-text : (text : List ℕ) (starts : List ℤ) (positions : List ℕ) (r : IdxAnswer) (starts′ : List ℤ) (positions′ : List ℕ)
     → IdxRead text starts positions r starts′ positions′ → IdxSays text starts positions r starts′ positions′
 a-text = idx-claim
 
-pub a-cue : (text : List ℕ) (n : ℕ) (r : CueAnswer) → r ≡ cueAnswer (pickOf (textOf text) n) → CueSays text n r
+pub a-cue : (text : List ℕ) (n : ℕ) (r : CueAnswer) → r ≡ cueAnswer (pickOf (idxOf text) n) → CueSays text n r
 a-cue = cue-claim
 
-pub one-text : (text : List ℕ) (a b : List Said) → IsText text a → IsText text b → a ≡ b
+pub one-text : (text : List ℕ) (a b : ListedText) → IsText text a → IsText text b → a ≡ b
 one-text = text-unique
+
+-- An index of no bytes (`parse_idx`, `pick_cue`, `decode_cue`) is listed in one way, as one cue in greys. It needs a
+-- place in both buffers, and is stored in the first of each; it has cue 0 and no other; its readings are those of the
+-- units at the file's front, in greys. Entry i of these is 17 times i in red, green and blue. No other text is listed
+-- so: one of blanks alone says nothing and has no cue, so no reading, and a text with a byte in which no line gives a
+-- palette is black.
+pub an-empty-index : (t : ListedText) → IsText [] t ↔ (t ≡ no-bytes greys)
+an-empty-index = no-bytes-listed
+
+pub an-empty-index-short : (starts : List ℤ) (positions : List ℕ) (r : IdxAnswer)
+    (starts′ : List ℤ) (positions′ : List ℕ) → IdxRead [] starts positions r starts′ positions′ → min (length starts) (length positions) ≡ 0
+    → (r .refused ≡ short-cues) × (starts′ ≡ starts) × (positions′ ≡ positions)
+an-empty-index-short = read-short
+
+pub an-empty-index-stored : (starts : List ℤ) (positions : List ℕ) (r : IdxAnswer)
+    (starts′ : List ℤ) (positions′ : List ℕ) → IdxRead [] starts positions r starts′ positions′ → 0 < min (length starts) (length positions)
+    → (r ≡ record { refused = 0; width = 0; height = 0; «has_palette» = false; palette = greys; cues = 1 })
+    × (starts′ ≡ set starts 0 (pos 0)) × (positions′ ≡ set positions 0 0)
+an-empty-index-stored = read-stored
+
+pub its-cue : (r : CueAnswer) → r ≡ cueAnswer (pickOf (idxOf []) 0)
+    → r
+    ≡ record {
+      refused = 0;
+      start = pos 0;
+      position = 0;
+      «has_duration» = false;
+      duration = 0;
+      «has_palette» = false;
+      palette = greys;
+    }
+its-cue = picked-first
+
+pub no-other-cue : (n : ℕ) (r : CueAnswer) → r ≡ cueAnswer (pickOf (idxOf []) n) → 0 < n → r .refused ≡ no-cue
+no-other-cue = picked-other
+
+pub its-readings : (file : List ℕ) (q : Wanted) (x : Reading) → IsReading [] file q x
+    → (x .text ≡ no-bytes greys) × (q .cue ≡ 0) × IsForm (wantedId q) file 0 (x .form)
+    × (shown x .start ≡ pos 0) × (shown x .duration ≡ none) × (canvasOf x ≡ unitCanvas greys (x .unit))
+its-readings = no-bytes-reading
+
+pub every-front-unit : (file : List ℕ) (q : Wanted) (m : Form) (u : ListedUnit)
+    → q .cue ≡ 0 → q .stream ≤ top-stream → 0 < length file → IsForm (wantedId q) file 0 m → IsUnit (unitOf m) u
+    → IsReading [] file q (record { text = no-bytes greys; cue = 0; form = m; unit = u })
+every-front-unit = no-bytes-read
+
+pub each-grey : (i c : ℕ) → i < 16 → c < 3 → getD greys (3 * i + c) 0 ≡ 17 * i
+each-grey = grey-rule
+
+pub blanks-alone : (text : List ℕ) → All blank text → (text ≡ [] → ⊥) → IsText text (of-lines [])
+blanks-alone = blanks-listed
+
+pub blanks-unreadable : (text file : List ℕ) (q : Wanted) → All blank text → (text ≡ [] → ⊥)
+    → (x : Reading) → IsReading text file q x → ⊥
+blanks-unreadable = blanks-unread
+
+pub black-otherwise : (text : List ℕ) (t : ListedText) → IsText text t → (text ≡ [] → ⊥) → hasPalette t ≡ false
+    → paletteOf t ≡ replicate 48 0
+black-otherwise = bytes-black
 
 -- The writer (`build_demo_spu`): for every picture that it accepts the grammar lists the unit with that width, height and map, and reading the
 -- unit gives them back, with no clipped code.

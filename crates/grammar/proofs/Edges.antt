@@ -17,7 +17,7 @@ use Rattle.grammar.specs.Packets.{Packet, Stuffing, Header1, Header2, Is
 use Rattle.grammar.specs.Parts.{Part}
 use Rattle.grammar.specs.IndexParts.{All, Trimmed}
 use Rattle.grammar.specs.IndexNumbers.{Valued, isDigit, numeral, Digits, Unsigned, Signed, top-position}
-use Rattle.grammar.specs.Index.{Said, palette, top-side, top-token, Tokens, Fields, Stays, IsTimestamp, Says, IsText}
+use Rattle.grammar.specs.Index.{Said, palette, top-side, top-token, Tokens, Fields, Stays, IsTimestamp, Says, IsLines}
 
 -- ---- Entries and bands
 
@@ -257,7 +257,7 @@ time-4 : (r : Part) (ps : List Part) (fs : List (Valued ℤ)) (n : Valued ℕ) �
 time-4 r ps fs n h = fields-most 4 (h .all-fields) fs (h .first-four)
 
 -- a byte of 127 stands in a text, and one of 128 in none
-low-fits : IsText (127 ∷ []) []
+low-fits : IsLines (127 ∷ []) []
 low-fits =
     record {
       low = (refl, tt);
@@ -285,5 +285,5 @@ low-fits =
     other : {x y : ℕ} {r : List ℕ} → 127 ∷ [] ≡ x ∷ y ∷ r → ⊥
     other e = let z = ap length e in omega (arith, z)
 
-low-over : (ls : List Said) → IsText (128 ∷ []) ls → ⊥
+low-over : (ls : List Said) → IsLines (128 ∷ []) ls → ⊥
 low-over ls h = let z = ltb-true 128 128 (h .low .0) in omega (arith, z)

@@ -11,7 +11,7 @@ use Rattle.grammar.specs.Parts.{Part}
 use Rattle.grammar.specs.IndexParts.{blank, parting}
 use Rattle.grammar.specs.IndexNumbers.{Valued, digit, numeral}
 use Rattle.grammar.specs.Index.{Said, size, palette, timestamp, startOf}
-use Rattle.grammar.specs.IndexCues.{Cue, cuesOf, coloursOf, paletteFrom, paletteOf, hasPalette, sizeFrom, displaySize, durationOf, cueAt}
+use Rattle.grammar.specs.IndexCues.{Cue, cuesOfLines, coloursOf, paletteFrom, paletteOfLines, linesHavePalette, sizeFrom, sizeOfLines, durationOf, cueAt}
 
 record Card : Type 0 where
   got : List ℕ
@@ -64,20 +64,20 @@ position (some c) = c .position ∷ []
 unfoldable cards : List Card
 cards =
     -- what a second, shorter palette line leaves; whether there is a palette; the last size; positions by number
-    card (take 12 (paletteOf lines)) (10 ∷ 11 ∷ 12 ∷ 4 ∷ 5 ∷ 6 ∷ 7 ∷ 8 ∷ 9 ∷ 0 ∷ 0 ∷ 0 ∷ [])
-    ∷ card (map (λ (ls : List Said). cond (hasPalette ls) 1 0) (lines ∷ (coloured [] ∷ []) ∷ [] ∷ [])) (1 ∷ 0 ∷ 0 ∷ [])
-    ∷ card (displaySize lines .width ∷ displaySize lines .height ∷ displaySize [] .width ∷ displaySize [] .height ∷ []) (720 ∷ 576 ∷ 0 ∷ 0 ∷ [])
-    ∷ card (position (cueAt (cuesOf lines) 0)) (5 ∷ [])
-    ∷ card (position (cueAt (cuesOf lines) 1)) (6 ∷ [])
-    ∷ card (position (cueAt (cuesOf lines) 2)) []
+    card (take 12 (paletteOfLines lines)) (10 ∷ 11 ∷ 12 ∷ 4 ∷ 5 ∷ 6 ∷ 7 ∷ 8 ∷ 9 ∷ 0 ∷ 0 ∷ 0 ∷ [])
+    ∷ card (map (λ (ls : List Said). cond (linesHavePalette ls) 1 0) (lines ∷ (coloured [] ∷ []) ∷ [] ∷ [])) (1 ∷ 0 ∷ 0 ∷ [])
+    ∷ card (sizeOfLines lines .width ∷ sizeOfLines lines .height ∷ sizeOfLines [] .width ∷ sizeOfLines [] .height ∷ []) (720 ∷ 576 ∷ 0 ∷ 0 ∷ [])
+    ∷ card (position (cueAt (cuesOfLines lines) 0)) (5 ∷ [])
+    ∷ card (position (cueAt (cuesOfLines lines) 1)) (6 ∷ [])
+    ∷ card (position (cueAt (cuesOfLines lines) 2)) []
     -- a start with all four fields, with one, with none, and one below 0
     ∷ card (number (startOf (map valued (pos 1 ∷ pos 2 ∷ pos 3 ∷ pos 4 ∷ [])))) (1 ∷ 3723004000 ∷ [])
     ∷ card (number (startOf (map valued (pos 1 ∷ [])))) (1 ∷ 3600000000 ∷ [])
     ∷ card (number (startOf [])) (1 ∷ 0 ∷ [])
     ∷ card (number (startOf (map valued (pos 0 ∷ pos 0 ∷ negsuc 0 ∷ pos 1 ∷ [])))) (0 ∷ 999000 ∷ [])
     -- durations: of the first of two, of the last, at the floor, at the ceiling and one below it
-    ∷ card (lasting (durationOf (cuesOf lines) 0)) (3600000000 ∷ [])
-    ∷ card (lasting (durationOf (cuesOf lines) 1)) []
+    ∷ card (lasting (durationOf (cuesOfLines lines) 0)) (3600000000 ∷ [])
+    ∷ card (lasting (durationOf (cuesOfLines lines) 1)) []
     ∷ card (lasting (durationOf (starting (pos 5) ∷ starting (pos 3) ∷ []) 0)) (0 ∷ [])
     ∷ card (lasting (durationOf (starting (negsuc 0) ∷ starting (pos 9223372036854775807) ∷ []) 0)) (9223372036854775807 ∷ [])
     ∷ card (lasting (durationOf (starting (pos 1) ∷ starting (pos 9223372036854775807) ∷ []) 0)) (9223372036854775806 ∷ [])
@@ -90,5 +90,5 @@ cards =
     ∷ []
 
 tabled : map (λ c. c .got) cards ≡ map (λ c. c .want) cards
-unfolding cards cuesOf coloursOf paletteFrom hasPalette sizeFrom durationOf cueAt startOf numeral
+unfolding cards cuesOfLines coloursOf paletteFrom linesHavePalette sizeFrom durationOf cueAt startOf numeral
 tabled = refl

@@ -14,4 +14,5 @@ pub mod Edges
 pub mod Lengths
 pub mod Clipped
 pub mod IndexCards
+pub mod NoBytes
 pub mod PaintCards

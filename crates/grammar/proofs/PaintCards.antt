@@ -16,8 +16,8 @@ use Rattle.grammar.specs.Rows.{code, paints, overshoots}
 use Rattle.grammar.specs.Pixels.{rowPixels, codesIn, clippedRow, clippedIn, indexMap}
 use Rattle.grammar.specs.Packets.{Packet, bare, packets, joined, unitOf, scratchFor}
 use Rattle.grammar.specs.IndexNumbers.{Valued}
-use Rattle.grammar.specs.Index.{Said, palette, timestamp, startOf}
-use Rattle.grammar.specs.IndexCues.{cuesOf, coloursOf, paletteFrom, cueAt, durationOf}
+use Rattle.grammar.specs.Index.{Said, palette, timestamp, startOf, of-lines}
+use Rattle.grammar.specs.IndexCues.{cuesOfLines, coloursOf, paletteFrom, cueAt, durationOf}
 use Rattle.grammar.specs.Canvas.{nibbleOf, coloured, pixel, toldLook, lineBytes, canvasBytes}
 use Rattle.grammar.specs.Reading.{Reading, Shown, shown, mapOf, wordsOf, unitCanvas, canvasOf}
 
@@ -71,7 +71,9 @@ blocks =
 abbrev reading : Reading
 reading =
     record {
-      lines = cued 1 5 ∷ palette (part 0 []) (map valued (0x0A0B0C ∷ 0x141516 ∷ 0x1E1F20 ∷ 0x28292A ∷ [])) ∷ cued 3 6 ∷ cued 7 8 ∷ [];
+      text =
+          of-lines
+          (cued 1 5 ∷ palette (part 0 []) (map valued (0x0A0B0C ∷ 0x141516 ∷ 0x1E1F20 ∷ 0x28292A ∷ [])) ∷ cued 3 6 ∷ cued 7 8 ∷ []);
       cue = 1;
       form = packets (carrier (part 9 (0 ∷ 3 ∷ [])) ∷ carrier (part 20 (8 ∷ 9 ∷ [])) ∷ []);
       unit = record { blocks = blocks; rows = (code 8 1 7 ∷ code 9 1 6 ∷ code 10 1 13 ∷ []) ∷ (code 12 4 0xF5 ∷ []) ∷ [] };
@@ -131,5 +133,5 @@ cards =
     ∷ []
 
 tabled : map (λ c. c .got) cards ≡ map (λ c. c .want) cards
-unfolding cards word entryWords bandWords rightmost lastLook lookAt paints overshoots rowPixels codesIn clippedRow clippedIn indexMap joined unitOf startOf cuesOf coloursOf paletteFrom cueAt durationOf coloured pixel lineBytes canvasBytes shown mapOf wordsOf unitCanvas canvasOf told commandsOf commandsIn firstDelay lastDelay lastNumbers stands allBands
+unfolding cards word entryWords bandWords rightmost lastLook lookAt paints overshoots rowPixels codesIn clippedRow clippedIn indexMap joined unitOf startOf cuesOfLines coloursOf paletteFrom cueAt durationOf coloured pixel lineBytes canvasBytes shown mapOf wordsOf unitCanvas canvasOf told commandsOf commandsIn firstDelay lastDelay lastNumbers stands allBands
 tabled = refl

@@ -1,5 +1,6 @@
--- Two whole readings as closed terms, that they pass, and what they give: the 2 by 2 title, bare, and a title in packet form with a palette
--- and a colour band (docs/GRAMMAR.md writes both out). Assumes nothing.
+-- Three whole readings as closed terms, that they pass, and what they give: the 2 by 2 title, bare; its file with an
+-- index of no bytes; and a title in packet form with a palette and a colour band (docs/GRAMMAR.md writes them out).
+-- Assumes nothing.
 use Prim.Native.Nat.{ℕ, _≤_}
 use native.Mathlib.Omega.{arith}
 use mathlib.Core.Path.{_≡_, refl}
@@ -12,8 +13,8 @@ use lib.Dec.{ltb}
 use Rattle.grammar.specs.Bytes.{word, nibble, nibbles}
 use Rattle.grammar.specs.IndexParts.{tokenByte, unlike}
 use Rattle.grammar.specs.IndexNumbers.{isDigit, numeral, Hex}
-use Rattle.grammar.specs.Index.{Said, palette, startOf, top-token, Says, IsText}
-use Rattle.grammar.specs.IndexCues.{cuesOf, coloursOf, paletteFrom, cueAt, durationOf}
+use Rattle.grammar.specs.Index.{Said, palette, startOf, top-token, Says, IsLines, greysFrom, greys, of-lines, no-bytes}
+use Rattle.grammar.specs.IndexCues.{cuesOfLines, coloursOf, paletteFrom, cueAt, durationOf}
 use Rattle.grammar.specs.Bands.{Band, Bands, Entries, entryWords, bandWords}
 use Rattle.grammar.specs.Control.{Order, start, selectors, alphas, area, offsets, colours, Command, Commands, Chain, IsChain}
 use Rattle.grammar.specs.Record.{told, commandsOf, commandsIn, firstDelay, lastDelay, lastNumbers, stands, allBands}
@@ -24,7 +25,7 @@ use Rattle.grammar.specs.Picture.{evens, topEnd, Stay0, IsPicture, Liste
 use Rattle.grammar.specs.Packets.{Packet, streamId, joined, Packets, bare, packets, unitOf, IsForm}
 use Rattle.grammar.specs.Canvas.{coloured, pixel, lineBytes, canvasBytes}
 use Rattle.grammar.specs.Reading.{wanted, Reading, IsReading, shown, mapOf, wordsOf, unitCanvas, canvasOf}
-use Rattle.grammar.proofs.UniqueParts.{head-same, tail-same}
+use Rattle.grammar.proofs.UniqueParts.{has-byte, head-same, tail-same}
 use Rattle.grammar.proofs.ReadingLine.{every, all-of, part, valued, line, said, says, trims}
 
 -- ---- The 2 by 2 title
@@ -53,9 +54,9 @@ small-unit =
     }
 
 abbrev pub small : Reading
-small = record { lines = said 0 ∷ []; cue = 0; form = bare (part 0 small-file); unit = small-unit }
+small = record { text = of-lines (said 0 ∷ []); cue = 0; form = bare (part 0 small-file); unit = small-unit }
 
-small-text : IsText line (said 0 ∷ [])
+small-text : IsLines line (said 0 ∷ [])
 small-text =
     record {
       low = all-of (λ b. ltb b 128) line refl;
@@ -125,10 +126,10 @@ small-picture =
 
 -- a bare unit has no id: it is read for every stream
 pub small-passes : (s : ℕ) → s ≤ 31 → IsReading line small-file (wanted 0 s) small
-unfolding cuesOf cueAt startOf word unitOf
+unfolding cuesOfLines cueAt startOf word unitOf
 small-passes s h =
     record {
-      text-is = small-text;
+      text-is = (has-byte _ _, small-text);
       cue-is = refl;
       stream-is = omega arith;
       at = record { start = pos 1000000; position = 0 };
@@ -145,7 +146,7 @@ small-32 x h = omega (arith, h .stream-is)
 -- start 1000000, no duration, origin 0 0, 2 by 2, three codes and none clipped, map 1 1 2 3, no words, and a canvas of
 -- black that is not transparent
 pub small-shown : shown small ≡ record { start = pos 1000000; duration = none; start-delay = 0; stop-delay = 0; x1 = 0; y1 = 0; width = 2; height = 2; codes = 3; clipped = 0 }
-unfolding shown cuesOf cueAt durationOf startOf codesIn clippedRow clippedIn overshoots paints told commandsOf commandsIn firstDelay lastDelay lastNumbers stands allBands
+unfolding shown cuesOfLines cueAt durationOf startOf codesIn clippedRow clippedIn overshoots paints told commandsOf commandsIn firstDelay lastDelay lastNumbers stands allBands
 small-shown = refl
 
 small-map : mapOf small ≡ 1 ∷ 1 ∷ 2 ∷ 3 ∷ []
@@ -159,6 +160,55 @@ small-words = refl
 pub small-canvas : canvasOf small ≡ 0 ∷ 0 ∷ 0 ∷ 255 ∷ 0 ∷ 0 ∷ 0 ∷ 255 ∷ 0 ∷ 0 ∷ 0 ∷ 255 ∷ 0 ∷ 0 ∷ 0 ∷ 255 ∷ []
 unfolding canvasOf unitCanvas paletteFrom rowPixels paints canvasBytes lineBytes pixel coloured lookAt lastLook told commandsOf commandsIn firstDelay lastDelay lastNumbers stands allBands
 small-canvas = refl
+
+-- ---- The same file with an index of no bytes
+
+abbrev pub alone : Reading
+alone = record { text = no-bytes greys; cue = 0; form = bare (part 0 small-file); unit = small-unit }
+
+pub alone-passes : (s : ℕ) → s ≤ 31 → IsReading [] small-file (wanted 0 s) alone
+unfolding cueAt word unitOf
+alone-passes s h =
+    record {
+      text-is = (refl, refl);
+      cue-is = refl;
+      stream-is = omega arith;
+      at = record { start = pos 0; position = 0 };
+      listed = refl;
+      before-end = omega arith;
+      form-is = (
+        record { four = omega arith; least = omega arith; fits = omega arith },
+        record { place-is = refl; bytes-are = refl },
+      );
+      unit-is = record { chain = small-chain; picture = small-picture };
+    }
+
+-- start 0, no duration, and all else as in the 2 by 2 title but for the canvas, in greys 1, 1, 3 and 2
+pub alone-shown :
+    shown alone
+    ≡ record {
+      start = pos 0;
+      duration = none;
+      start-delay = 0;
+      stop-delay = 0;
+      x1 = 0;
+      y1 = 0;
+      width = 2;
+      height = 2;
+      codes = 3;
+      clipped = 0;
+    }
+unfolding shown cueAt durationOf codesIn clippedRow clippedIn overshoots paints told commandsOf commandsIn firstDelay lastDelay lastNumbers stands allBands
+alone-shown = refl
+
+pub alone-words : wordsOf alone ≡ []
+unfolding wordsOf bandWords told commandsOf commandsIn firstDelay lastDelay lastNumbers stands allBands
+alone-words = refl
+
+pub alone-canvas :
+    canvasOf alone ≡ 17 ∷ 17 ∷ 17 ∷ 255 ∷ 17 ∷ 17 ∷ 17 ∷ 255 ∷ 51 ∷ 51 ∷ 51 ∷ 255 ∷ 34 ∷ 34 ∷ 34 ∷ 255 ∷ []
+unfolding canvasOf unitCanvas greysFrom rowPixels paints canvasBytes lineBytes pixel coloured lookAt lastLook told commandsOf commandsIn firstDelay lastDelay lastNumbers stands allBands
+alone-canvas = refl
 
 -- ---- A title in packet form, with a palette and a colour band: 2 by 1 at 4 2
 
@@ -216,7 +266,7 @@ packed-unit =
     }
 
 abbrev pub packed : Reading
-packed = record { lines = colour-said ∷ said 23 ∷ []; cue = 0; form = packets (packed-packet ∷ []); unit = packed-unit }
+packed = record { text = of-lines (colour-said ∷ said 23 ∷ []); cue = 0; form = packets (packed-packet ∷ []); unit = packed-unit }
 
 -- six hexadecimal digits with no `0x` in front
 token-reads : (b c v : ℕ) (s : List ℕ) → (c ≡ 120 → ⊥) → every (isDigit 16) (b ∷ c ∷ s) ≡ true → v ≡ numeral 16 0 (b ∷ c ∷ s) → v ≤ top-token → Hex top-token (b ∷ c ∷ s) v
@@ -258,7 +308,7 @@ colour-says = (
   ),
 )
 
-packed-lines : IsText packed-text (colour-said ∷ said 23 ∷ [])
+packed-lines : IsLines packed-text (colour-said ∷ said 23 ∷ [])
 packed-lines =
     record {
       low = all-of (λ b. ltb b 128) packed-text refl;
@@ -378,10 +428,10 @@ packed-picture =
     }
 
 pub packed-passes : IsReading packed-text packed-file (wanted 0 0) packed
-unfolding cuesOf cueAt startOf word joined unitOf
+unfolding cuesOfLines cueAt startOf word joined unitOf
 packed-passes =
     record {
-      text-is = packed-lines;
+      text-is = (has-byte _ _, packed-lines);
       cue-is = refl;
       stream-is = omega arith;
       at = record { start = pos 1000000; position = 0 };
@@ -393,7 +443,7 @@ packed-passes =
 
 -- the first pixel has the unit's own colours, the second, at column 5, the band's
 packed-shown : shown packed ≡ record { start = pos 1000000; duration = none; start-delay = 3; stop-delay = 0; x1 = 4; y1 = 2; width = 2; height = 1; codes = 2; clipped = 0 }
-unfolding shown cuesOf cueAt durationOf startOf codesIn clippedRow clippedIn overshoots paints told commandsOf commandsIn firstDelay lastDelay lastNumbers stands allBands
+unfolding shown cuesOfLines cueAt durationOf startOf codesIn clippedRow clippedIn overshoots paints told commandsOf commandsIn firstDelay lastDelay lastNumbers stands allBands
 packed-shown = refl
 
 packed-map : mapOf packed ≡ 1 ∷ 2 ∷ []

@@ -11,7 +11,7 @@ use lib.ListN.{length}
 use lib.Seq.{ext-getD}
 use borrow.Author.Tests.{eqb-true}
 use Rattle.grammar.specs.Bytes.{byte}
-use Rattle.grammar.specs.Index.{Said, IsText}
+use Rattle.grammar.specs.Index.{ListedText, IsText}
 use Rattle.grammar.specs.IndexCues.{Cue, cuesOf, cueAt}
 use Rattle.grammar.specs.Packets.{Part, Packet, streamId, IsBody, lengthEnd, Keeps, IsPack, IsPrivate, IsOther, IsPacket, keptBytes, Complete, Packets, Form, bare, packets, IsForm}
 use Rattle.grammar.specs.Reading.{Wanted, wantedId, Reading, IsReading}
@@ -241,12 +241,12 @@ forms-same s f g p ps w a m = (
 
 -- ---- Readings
 
-module _ (text : List ℕ) (q : Wanted) (ls : List Said) (c : Cue) (t : IsText text ls) (e : cueAt (cuesOf ls) (q .cue) ≡ some c) where
+module _ (text : List ℕ) (q : Wanted) (t : ListedText) (c : Cue) (so : IsText text t) (e : cueAt (cuesOf t) (q .cue) ≡ some c) where
   -- a reading is of that cue
   at-cue : (f : List ℕ) (x : Reading) (h : IsReading text f q x) → h .at ≡ c
   at-cue f x h =
-      let l : x .lines ≡ ls = text-unique text (x .lines) ls (h .text-is) t in
-      let z : some (h .at) ≡ some c = sym (h .listed) ∙ ap₂ (λ (y : List Said) (m : ℕ). cueAt (cuesOf y) m) l (h .cue-is) ∙ e in
+      let l : x .text ≡ t = text-unique text (x .text) t (h .text-is) so in
+      let z : some (h .at) ≡ some c = sym (h .listed) ∙ ap₂ (λ (y : ListedText) (m : ℕ). cueAt (cuesOf y) m) l (h .cue-is) ∙ e in
       cc z
 
   reading-to : (f g : List ℕ) (ps : List Packet) → Walk (wantedId q) f (c .position) [] ps → Alike (q .stream) f g ps

@@ -11,7 +11,7 @@ use lib.IntN.{ℤ, pos, negℤ}
 use Rattle.grammar.specs.Parts.{Part}
 use Rattle.grammar.specs.IndexParts.{parting, tokenByte, line-end, comma, colon, letter-x, All, Span, Trimmed, After}
 use Rattle.grammar.specs.IndexNumbers.{Valued, isDigit, Digits, Unsigned, Signed, Stripped, Hex, top-position, Position}
-use Rattle.grammar.specs.Index.{Said, size, palette, timestamp, size-word, palette-word, timestamp-word, IsSize, top-side, top-token, IsToken, Tokens, Fields, IsFilepos, IsOtherPart, filepos-word, IsTimestamp, Says, SaysNothing, LinesListed, IsText}
+use Rattle.grammar.specs.Index.{Said, size, palette, timestamp, size-word, palette-word, timestamp-word, IsSize, top-side, top-token, IsToken, Tokens, Fields, IsFilepos, IsOtherPart, filepos-word, IsTimestamp, Says, SaysNothing, LinesListed, IsLines, ListedText, of-lines, no-bytes, IsText}
 use Rattle.grammar.proofs.UniqueParts.{never, not-empty, head-same, tail-same, all-rest, span-unique, trimmed-unique, all-trimmed-unique, has-separator, parted-unique, halves-unique, after-unique, first-unique, last-unique}
 
 -- ---- Numbers
@@ -242,7 +242,13 @@ lines-unique (p ∷ ps) (l ∷ a) (m ∷ b) h k =
     let q : h .0 ≡ k .0 = trimmed-unique p (h .0) (k .0) (h .1) (k .1) in
     one-listed (h .0) ps l m a b (lines-unique ps) (h .2) (rw q (k .2))
 
-pub text-unique : (text : List ℕ) (a b : List Said) → IsText text a → IsText text b → a ≡ b
-text-unique text a b h k =
+text-lines-unique : (text : List ℕ) (a b : List Said) → IsLines text a → IsLines text b → a ≡ b
+text-lines-unique text a b h k =
     let q : h .all-lines ≡ k .all-lines = parted-unique line-end 0 text (h .all-lines) (k .all-lines) (h .parted) (k .parted) in
     lines-unique (h .all-lines) a b (h .listed) (rw q (k .listed))
+
+pub text-unique : (text : List ℕ) (a b : ListedText) → IsText text a → IsText text b → a ≡ b
+text-unique text (of-lines a) (of-lines b) h k = ap of-lines (text-lines-unique text a b (h .1) (k .1))
+text-unique text (of-lines a) (no-bytes q) h k = absurd (h .0 (k .0))
+text-unique text (no-bytes p) (of-lines b) h k = absurd (k .0 (h .0))
+text-unique text (no-bytes p) (no-bytes q) h k = ap no-bytes (h .1 ∙ sym (k .1))

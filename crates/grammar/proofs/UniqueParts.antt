@@ -18,6 +18,9 @@ never b t f = let z : true ≡ false = sym t ∙ f in let n : _≡_ {A = ℕ} 0 
 pub not-empty : (b : ℕ) (s : List ℕ) → [] ≡ b ∷ s → ⊥
 not-empty b s e = let n : _≡_ {A = ℕ} 0 1 = cc e in omega arith
 
+pub has-byte : (b : ℕ) (s : List ℕ) → b ∷ s ≡ [] → ⊥
+has-byte b s e = not-empty b s (sym e)
+
 pub head-same : (a b : ℕ) (s t : List ℕ) → a ∷ s ≡ b ∷ t → a ≡ b
 head-same a b s t e = cc e
 

@@ -1,6 +1,7 @@
--- The lines of the index text that say something, with their parts, tokens and numbers (FORMAT 1). Conditions on a finished list of
--- lines: every such line is listed, in turn, and none besides. They find none. Assumes nothing: these are definitions.
-use Prim.Native.Nat.{ℕ, zero, suc, _+_, _-_, _^_, _<_}
+-- The lines of the index text that say something, with their parts, tokens and numbers, and the text of no bytes
+-- (FORMAT 1). Conditions on a finished list of lines: every such line is listed, in turn, and none besides. They find
+-- none. Assumes nothing: these are definitions.
+use Prim.Native.Nat.{ℕ, zero, suc, _+_, _-_, _*_, _^_, _<_}
 use mathlib.Core.Path.{_≡_}
 use mathlib.Core.Logic.{_⊎_}
 use mathlib.Core.List.{List, [], _∷_}
@@ -163,8 +164,28 @@ LinesListed (p ∷ ps) (l ∷ ls) =
     (i : Part) × Trimmed p i × ((SaysNothing i × LinesListed ps (l ∷ ls)) ⊎ (Says i l × LinesListed ps ls))
 
 -- the text has these lines (FORMAT 1.1, 1.2)
-pub record IsText (text : List ℕ) (lines : List Said) : Type 0 where
+pub record IsLines (text : List ℕ) (lines : List Said) : Type 0 where
   pub low : All (λ b. ltb b 128) text
   pub all-lines : List Part
   pub parted : Parted line-end 0 text all-lines
   pub listed : LinesListed all-lines lines
+
+-- ---- The text
+
+-- red, green and blue of n palette entries from entry i on: all three are 17 times the entry's number (FORMAT 1.13)
+unfoldable pub greysFrom : ℕ → ℕ → List ℕ
+greysFrom zero i = []
+greysFrom (suc n) i = 17 * i ∷ 17 * i ∷ 17 * i ∷ greysFrom n (suc i)
+
+abbrev pub greys : List ℕ
+greys = greysFrom 16 0
+
+-- what is listed of a text: its lines that say something; or that it has no bytes, with the palette that it then has
+pub data ListedText : Type 0 where
+  of-lines : (lines : List Said) → ListedText
+  no-bytes : (palette : List ℕ) → ListedText
+
+-- the text is listed so. A text has a byte or has none, so no text is listed in both ways
+abbrev pub IsText : List ℕ → ListedText → Type 0
+IsText text (of-lines ls) = (text ≡ [] → ⊥) × IsLines text ls
+IsText text (no-bytes p) = (text ≡ []) × (p ≡ greys)

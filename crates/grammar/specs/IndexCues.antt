@@ -1,4 +1,4 @@
--- What the listed lines of the index text give: cues and their durations, palette and size (FORMAT 1.9, 1.10).
+-- What a listed index text gives: cues and their durations, palette and size (FORMAT 1.9, 1.10, 1.13).
 -- Assumes nothing: these are definitions.
 use Prim.Native.Nat.{ℕ, zero, suc, _-_, _/_, _%_, _^_, min}
 use mathlib.Core.Bool.{Bool, true, false, _||_}
@@ -8,18 +8,18 @@ use lib.ListN.{replicate}
 use lib.Seq.{sets}
 use lib.IntN.{ℤ, pos, negsuc, _-ℤ_}
 use Rattle.grammar.specs.IndexNumbers.{Valued}
-use Rattle.grammar.specs.Index.{Said, size, palette, timestamp, startOf}
+use Rattle.grammar.specs.Index.{Said, size, palette, timestamp, startOf, ListedText, of-lines, no-bytes}
 
 pub record Cue : Type 0 where
   pub start : ℤ
   pub position : ℕ
 
 -- each timestamp adds a cue
-unfoldable pub cuesOf : List Said → List Cue
-cuesOf [] = []
-cuesOf (size l w h ∷ ls) = cuesOf ls
-cuesOf (palette l ts ∷ ls) = cuesOf ls
-cuesOf (timestamp l ps fs n ∷ ls) = record { start = startOf fs; position = n .value } ∷ cuesOf ls
+unfoldable pub cuesOfLines : List Said → List Cue
+cuesOfLines [] = []
+cuesOfLines (size l w h ∷ ls) = cuesOfLines ls
+cuesOfLines (palette l ts ∷ ls) = cuesOfLines ls
+cuesOfLines (timestamp l ps fs n ∷ ls) = record { start = startOf fs; position = n .value } ∷ cuesOfLines ls
 
 -- red, green and blue of each token
 unfoldable pub coloursOf : List (Valued ℕ) → List ℕ
@@ -37,19 +37,19 @@ paletteFrom was (timestamp l ps fs n ∷ ls) = paletteFrom was ls
 abbrev pub first-palette : List ℕ
 first-palette = replicate 48 0
 
-abbrev pub paletteOf : List Said → List ℕ
-paletteOf ls = paletteFrom first-palette ls
+abbrev pub paletteOfLines : List Said → List ℕ
+paletteOfLines ls = paletteFrom first-palette ls
 
 -- a palette line has a token
 abbrev pub some-token : List (Valued ℕ) → Bool
 some-token [] = false
 some-token (t ∷ ts) = true
 
-unfoldable pub hasPalette : List Said → Bool
-hasPalette [] = false
-hasPalette (size l w h ∷ ls) = hasPalette ls
-hasPalette (palette l ts ∷ ls) = some-token ts || hasPalette ls
-hasPalette (timestamp l ps fs n ∷ ls) = hasPalette ls
+unfoldable pub linesHavePalette : List Said → Bool
+linesHavePalette [] = false
+linesHavePalette (size l w h ∷ ls) = linesHavePalette ls
+linesHavePalette (palette l ts ∷ ls) = some-token ts || linesHavePalette ls
+linesHavePalette (timestamp l ps fs n ∷ ls) = linesHavePalette ls
 
 pub record Size : Type 0 where
   pub width : ℕ
@@ -65,8 +65,8 @@ sizeFrom was (size l w h ∷ ls) = sizeFrom (sizeIs (w .value) (h .value)) ls
 sizeFrom was (palette l ts ∷ ls) = sizeFrom was ls
 sizeFrom was (timestamp l ps fs n ∷ ls) = sizeFrom was ls
 
-abbrev pub displaySize : List Said → Size
-displaySize ls = sizeFrom (sizeIs 0 0) ls
+abbrev pub sizeOfLines : List Said → Size
+sizeOfLines ls = sizeFrom (sizeIs 0 0) ls
 
 -- cue n, numbered from 0
 unfoldable pub cueAt : List Cue → ℕ → Option Cue
@@ -85,3 +85,22 @@ durationOf [] n = none
 durationOf (c ∷ []) n = none
 durationOf (c ∷ d ∷ cs) zero = some (clip (d .start -ℤ c .start))
 durationOf (c ∷ d ∷ cs) (suc n) = durationOf (d ∷ cs) n
+
+-- ---- What a listed text gives (FORMAT 1.9, 1.13)
+
+abbrev pub cuesOf : ListedText → List Cue
+cuesOf (of-lines ls) = cuesOfLines ls
+cuesOf (no-bytes p) = record { start = pos 0; position = 0 } ∷ []
+
+abbrev pub paletteOf : ListedText → List ℕ
+paletteOf (of-lines ls) = paletteOfLines ls
+paletteOf (no-bytes p) = p
+
+-- no line gives the greys
+abbrev pub hasPalette : ListedText → Bool
+hasPalette (of-lines ls) = linesHavePalette ls
+hasPalette (no-bytes p) = false
+
+abbrev pub displaySize : ListedText → Size
+displaySize (of-lines ls) = sizeOfLines ls
+displaySize (no-bytes p) = sizeIs 0 0

@@ -7,7 +7,7 @@ use mathlib.Core.Option.{Option, some, none}
 use mathlib.Core.List.{List, map}
 use lib.ListN.{length}
 use lib.IntN.{ℤ, pos}
-use Rattle.grammar.specs.Index.{Said, IsText}
+use Rattle.grammar.specs.Index.{ListedText, IsText}
 use Rattle.grammar.specs.IndexCues.{Cue, cuesOf, cueAt, paletteOf, durationOf}
 use Rattle.grammar.specs.Packets.{Form, IsForm, unitOf, scratchFor, streamId, top-stream}
 use Rattle.grammar.specs.Bands.{bandWords}
@@ -28,20 +28,20 @@ wanted n s = record { cue = n; stream = s }
 abbrev pub wantedId : Wanted → ℕ → Bool
 wantedId q = streamId (q .stream)
 
--- every line that says something, which of their cues is read, how its unit stands in the file, and the unit's blocks and rows
+-- what is listed of the text, which of its cues is read, how its unit stands in the file, and the unit's blocks and rows
 pub record Reading : Type 0 where
-  pub lines : List Said
+  pub text : ListedText
   pub cue : ℕ
   pub form : Form
   pub unit : ListedUnit
 
 -- r is a reading of these files for the cue and the stream that are asked for
 pub record IsReading (text file : List ℕ) (q : Wanted) (r : Reading) : Type 0 where
-  pub text-is : IsText text (r .lines)
+  pub text-is : IsText text (r .text)
   pub cue-is : r .cue ≡ q .cue
   pub stream-is : q .stream ≤ top-stream
   pub at : Cue
-  pub listed : cueAt (cuesOf (r .lines)) (r .cue) ≡ some at
+  pub listed : cueAt (cuesOf (r .text)) (r .cue) ≡ some at
   pub before-end : at .position < length file
   pub form-is : IsForm (wantedId q) file (at .position) (r .form)
   pub unit-is : IsUnit (unitOf (r .form)) (r .unit)
@@ -72,8 +72,8 @@ startAt (some c) = c .start
 unfoldable pub shown : Reading → Shown
 shown r =
     record {
-      start = startAt (cueAt (cuesOf (r .lines)) (r .cue));
-      duration = durationOf (cuesOf (r .lines)) (r .cue);
+      start = startAt (cueAt (cuesOf (r .text)) (r .cue));
+      duration = durationOf (cuesOf (r .text)) (r .cue);
       start-delay = delayOf (toldBy r .starts);
       stop-delay = delayOf (toldBy r .stops);
       x1 = toldBy r .at .x1;
@@ -98,7 +98,7 @@ unitCanvas palette l =
     (map (rowPixels (width (told (l .blocks)))) (l .rows))
 
 unfoldable pub canvasOf : Reading → List ℕ
-canvasOf r = unitCanvas (paletteOf (r .lines)) (r .unit)
+canvasOf r = unitCanvas (paletteOf (r .text)) (r .unit)
 
 -- scratch, map, words and canvas of these lengths are long enough (FORMAT 6.6)
 pub record LongEnough (r : Reading) (scratch pixels words canvas : ℕ) : Type 0 where

@@ -12,22 +12,74 @@ use outcome::NO_CUE;
 use outcome::SHORT_CUES;
 ghost use mathlib.Core.Path.{_≡_};
 ghost use mathlib.Core.Option.{some};
-ghost use mathlib.Core.List.{List};
+ghost use mathlib.Core.List.{List, []};
 ghost use Prim.Native.Nat.{ℕ, _<_, _+_, _^_, min};
 ghost use lib.IntN.{_-ℤ_};
 ghost use lib.ListN.{length};
 ghost use Rattle.idx_model.specs.Claim.{IdxSays, CueSays};
 ghost use Rattle.outcome.specs.Outcome.{ok, refuse, IsOk};
 ghost use Rattle.grammar.specs.IndexParts.{line-end};
-ghost use Rattle.grammar.specs.Index.{Said};
-ghost use Rattle.grammar.specs.IndexCues.{paletteOf, clip};
+ghost use Rattle.grammar.specs.Index.{Said, greys, of-lines};
+ghost use Rattle.grammar.specs.IndexCues.{paletteOfLines, clip};
 ghost use Rattle.idx_numbers_model.specs.Parts.{all, split};
 ghost use Rattle.idx_lines_model.specs.Answers.{lineSays};
-ghost use Rattle.idx_model.specs.Text.{lowByte, linesIn, textIn, textOf};
+ghost use Rattle.idx_model.specs.Text.{lowByte, linesIn, textIn, idxOf};
 ghost use Rattle.idx_model.specs.Answers.{nothing-seen, seeSize, seePalette, seeCue, seeAll, seeLine, MeasuredAs, CueFits, CueStored, CuesStored, linesWith, idxAnswer, IdxRead, pickOf, cueAnswer};
 
 // The byte that ends a line.
 const LINE_END: u8 = 10;
+
+// The palette of a text of no bytes: red, green and blue of entry i are 17 times i.
+const GREYS: [u8; 48] = [
+    0,
+    0,
+    0,
+    17,
+    17,
+    17,
+    34,
+    34,
+    34,
+    51,
+    51,
+    51,
+    68,
+    68,
+    68,
+    85,
+    85,
+    85,
+    102,
+    102,
+    102,
+    119,
+    119,
+    119,
+    136,
+    136,
+    136,
+    153,
+    153,
+    153,
+    170,
+    170,
+    170,
+    187,
+    187,
+    187,
+    204,
+    204,
+    204,
+    221,
+    221,
+    221,
+    238,
+    238,
+    238,
+    255,
+    255,
+    255,
+];
 
 // Whether all bytes are below 80. With no way out of the loop many are tested at once.
 fn is_low(s: &[u8]) -> bool
@@ -209,7 +261,7 @@ fn refused_idx(number: u8) -> IdxAnswer
 }
 
 fn accepted_idx(seen: Seen, palette: [u8; 48]) -> IdxAnswer
-    ensures { λ r. ⌜ ((ls : List Said) (cue : ℕ) → seen ≡ seeAll cue nothing-seen ls → palette ≡ paletteOf ls → r ≡ idxAnswer (ok ls)) ⌝ }
+    ensures { λ r. ⌜ ((ls : List Said) (cue : ℕ) → seen ≡ seeAll cue nothing-seen ls → palette ≡ paletteOfLines ls → r ≡ idxAnswer (ok (of-lines ls))) ⌝ }
 {
     IdxAnswer {
         refused: 0,
@@ -221,12 +273,45 @@ fn accepted_idx(seen: Seen, palette: [u8; 48]) -> IdxAnswer
     }
 }
 
+fn grey_palette() -> [u8; 48]
+    ensures { λ r. ⌜ r ≡ greys ⌝ }
+{
+    GREYS
+}
+
+// The one cue of a text of no bytes, with its start and its position, both 0, stored.
+fn parse_empty_idx(starts: &mut [i64], positions: &mut [u64]) -> IdxAnswer
+    ensures { λ r. ⌜ IdxRead [] (now (starts .entry)) (now (positions .entry)) r (now (starts .exit)) (now (positions .exit)) ⌝ }
+{
+    if starts.len() == 0 {
+        return refused_idx(SHORT_CUES);
+    }
+    if positions.len() == 0 {
+        return refused_idx(SHORT_CUES);
+    }
+    starts[0] = 0;
+    positions[0] = 0;
+    let palette = grey_palette();
+    IdxAnswer {
+        refused: 0,
+        width: 0,
+        height: 0,
+        has_palette: false,
+        palette,
+        cues: 1,
+    }
+}
+
 // Size, palette and cues of a text: start and position of each cue go to the front of the lent buffers. A cue beyond the shorter one is
-// refused, in turn with the other faults of its line and of the lines before it; on a refusal both buffers are as found.
+// refused, in turn with the other faults of its line and of the lines before it; on a refusal both buffers are as found. A text of no
+// bytes is one cue, in greys.
 // Ruled out: a later fault answered, and a cue stored on a refusal.
 pub fn parse_idx(text: &[u8], starts: &mut [i64], positions: &mut [u64]) -> IdxAnswer
     ensures { λ r. ⌜ IdxRead (now (text .entry)) (now (starts .entry)) (now (positions .entry)) r (now (starts .exit)) (now (positions .exit)) × IdxSays (now (text .entry)) (now (starts .entry)) (now (positions .entry)) r (now (starts .exit)) (now (positions .exit)) ⌝ }
 {
+    if text.len() == 0 {
+        return parse_empty_idx(starts, positions);
+    }
     let room = shorter(starts.len(), positions.len());
     let mut palette = [0u8; 48];
     match measure(text, room, 0, &mut palette) {
@@ -270,7 +355,7 @@ pub fn duration_of(start: i64, next: i64) -> u64
 }
 
 fn picked_cue(seen: Seen, cue: usize, palette: [u8; 48]) -> CueAnswer
-    ensures { λ r. ⌜ ((ls : List Said) → seen ≡ seeAll cue nothing-seen ls → palette ≡ paletteOf ls → r ≡ cueAnswer (pickOf (ok ls) cue)) ⌝ }
+    ensures { λ r. ⌜ ((ls : List Said) → seen ≡ seeAll cue nothing-seen ls → palette ≡ paletteOfLines ls → r ≡ cueAnswer (pickOf (ok (of-lines ls)) cue)) ⌝ }
 {
     let n = seen.cues;
     if cue >= n {
@@ -301,11 +386,33 @@ fn picked_cue(seen: Seen, cue: usize, palette: [u8; 48]) -> CueAnswer
     }
 }
 
+// Cue 0 of a text of no bytes, which has no other.
+fn pick_empty_cue(cue: usize) -> CueAnswer
+    ensures { λ r. ⌜ r ≡ cueAnswer (pickOf (idxOf []) cue) ⌝ }
+{
+    if cue > 0 {
+        return refused_cue(NO_CUE);
+    }
+    let palette = grey_palette();
+    CueAnswer {
+        refused: 0,
+        start: 0,
+        position: 0,
+        has_duration: false,
+        duration: 0,
+        has_palette: false,
+        palette,
+    }
+}
+
 // One cue of a text, without cue buffers: every line is checked all the same.
 // Ruled out: a text with a bad later line accepted, and a duration below 0.
 pub fn pick_cue(text: &[u8], cue: usize) -> CueAnswer
-    ensures { λ r. ⌜ (r ≡ cueAnswer (pickOf (textOf (now (text .entry))) cue)) × CueSays (now (text .entry)) cue r ⌝ }
+    ensures { λ r. ⌜ (r ≡ cueAnswer (pickOf (idxOf (now (text .entry))) cue)) × CueSays (now (text .entry)) cue r ⌝ }
 {
+    if text.len() == 0 {
+        return pick_empty_cue(cue);
+    }
     let mut palette = [0u8; 48];
     match measure(text, 18446744073709551615, cue, &mut palette) {
         Measured::Refused(number) => refused_cue(number),

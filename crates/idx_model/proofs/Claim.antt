@@ -8,12 +8,12 @@ use native.Mathlib.Omega.{arith}
 use lib.ListN.{length}
 use lib.Seq.{sets}
 use lib.IntN.{ℤ}
-use Rattle.outcome.specs.Outcome.{Res, ok, refuse, listed, no-cue}
+use Rattle.outcome.specs.Outcome.{Res, ok, refuse, listedBy, no-cue}
 use Rattle.outcome.proofs.Laws.{le-or-lt}
-use Rattle.grammar.specs.Index.{Said, palette}
+use Rattle.grammar.specs.Index.{ListedText, palette}
 use Rattle.grammar.specs.IndexCues.{Cue, cuesOf, cueAt, paletteOf, hasPalette, durationOf}
-use Rattle.idx_model.specs.Text.{textOf}
-use Rattle.idx_model.specs.Answers.{startsOf, positionsOf, linesWith, idxAnswer, IdxRead, pickOf, cueAnswer}
+use Rattle.idx_model.specs.Text.{idxOf}
+use Rattle.idx_model.specs.Answers.{startsOf, positionsOf, idxWith, idxAnswer, IdxRead, pickOf, cueAnswer}
 use Rattle.idx_model.specs.Claim.{Gives, IdxSays, GivesCue, CueSays}
 use Rattle.idx_model.specs.declared.IdxAnswer.{IdxAnswer}
 use Rattle.idx_model.specs.declared.CueAnswer.{CueAnswer}
@@ -26,58 +26,59 @@ module _ (text : List ℕ) (starts : List ℤ) (positions : List ℕ) (r : IdxAn
   room : ℕ
   room = min (length starts) (length positions)
 
-  found : (lines : Res (List Said)) → linesWith starts positions text ≡ lines → r .refused ≡ 0 → (ls : List Said) × (linesWith starts positions text ≡ ok ls)
+  found : (x : Res ListedText) → idxWith starts positions text ≡ x → r .refused ≡ 0
+      → (t : ListedText) × (idxWith starts positions text ≡ ok t)
   unfolding idxAnswer
-  found (ok ls) e z = (ls, e)
+  found (ok t) e z = (t, e)
   found (refuse n) e z =
       let q : r .refused ≡ n = ap (λ (a : IdxAnswer). a .refused) (h .answer ∙ ap idxAnswer e) in
       absurd (text-refuses (some (min (length starts) (length positions))) text n e (sym q ∙ z))
 
-  gives : (ls : List Said) → linesWith starts positions text ≡ ok ls → Gives ls starts positions r starts′ positions′
+  gives : (t : ListedText) → idxWith starts positions text ≡ ok t → Gives t starts positions r starts′ positions′
   unfolding idxAnswer
-  gives ls e =
-      let q : r ≡ idxAnswer (ok ls) = h .answer ∙ ap idxAnswer e in
+  gives t e =
+      let q : r ≡ idxAnswer (ok t) = h .answer ∙ ap idxAnswer e in
       record {
         width = ap (λ (a : IdxAnswer). a .width) q;
         height = ap (λ (a : IdxAnswer). a .height) q;
         coloured = ap (λ (a : IdxAnswer). a .«has_palette») q;
         palette = ap (λ (a : IdxAnswer). a .palette) q;
         count = ap (λ (a : IdxAnswer). a .cues) q;
-        starts-are = h .stored .starts-are ∙ ap (λ (x : Res (List Said)). sets starts 0 (startsOf (listed x))) e;
-        positions-are = h .stored .positions-are ∙ ap (λ (x : Res (List Said)). sets positions 0 (positionsOf (listed x))) e;
+        starts-are = h .starts-are ∙ ap (λ (x : Res ListedText). sets starts 0 (startsOf (listedBy x cuesOf))) e;
+        positions-are = h .positions-are ∙ ap (λ (x : Res ListedText). sets positions 0 (positionsOf (listedBy x cuesOf))) e;
       }
 
-  accepted : (ls : List Said) → linesWith starts positions text ≡ ok ls → r .refused ≡ 0
+  accepted : (t : ListedText) → idxWith starts positions text ≡ ok t → r .refused ≡ 0
   unfolding idxAnswer
-  accepted ls e = ap (λ (a : IdxAnswer). a .refused) (h .answer ∙ ap idxAnswer e)
+  accepted t e = ap (λ (a : IdxAnswer). a .refused) (h .answer ∙ ap idxAnswer e)
 
-  left : (lines : Res (List Said)) → linesWith starts positions text ≡ lines → (r .refused ≡ 0 → ⊥) → (starts′ ≡ starts) × (positions′ ≡ positions)
-  unfolding cuesOf
-  left (ok ls) e f = absurd (f (accepted ls e))
+  left : (x : Res ListedText) → idxWith starts positions text ≡ x → (r .refused ≡ 0 → ⊥)
+      → (starts′ ≡ starts) × (positions′ ≡ positions)
+  left (ok t) e f = absurd (f (accepted t e))
   left (refuse n) e f = (
-    h .stored .starts-are ∙ ap (λ (x : Res (List Said)). sets starts 0 (startsOf (listed x))) e,
-    h .stored .positions-are ∙ ap (λ (x : Res (List Said)). sets positions 0 (positionsOf (listed x))) e,
+    h .starts-are ∙ ap (λ (x : Res ListedText). sets starts 0 (startsOf (listedBy x cuesOf))) e,
+    h .positions-are ∙ ap (λ (x : Res ListedText). sets positions 0 (positionsOf (listedBy x cuesOf))) e,
   )
 
   pub idx-claim : IdxSays text starts positions r starts′ positions′
   idx-claim = record {
     exactly-when = (
-      λ z. let w = found (linesWith starts positions text) refl z in let t = text-is (some (min (length starts) (length positions))) text (w .0) (w .1) in (w .0, t .0, t .1),
+      λ z. let w = found (idxWith starts positions text) refl z in let i = text-is (some (min (length starts) (length positions))) text (w .0) (w .1) in (w .0, i .0, i .1),
       λ w. accepted (w .0) (text-one (some (min (length starts) (length positions))) text (w .0) (w .1) (w .2)),
     );
-    same = λ ls k z.
-        let w = found (linesWith starts positions text) refl z in
-        let t = text-is (some (min (length starts) (length positions))) text (w .0) (w .1) in
-        subst (λ (x : List Said). Gives x starts positions r starts′ positions′) (text-unique text (w .0) ls (t .0) k) (gives (w .0) (w .1));
-    as-found = left (linesWith starts positions text) refl;
+    same = λ t k z.
+        let w = found (idxWith starts positions text) refl z in
+        let i = text-is (some (min (length starts) (length positions))) text (w .0) (w .1) in
+        subst (λ (x : ListedText). Gives x starts positions r starts′ positions′) (text-unique text (w .0) t (i .0) k) (gives (w .0) (w .1));
+    as-found = left (idxWith starts positions text) refl;
   }
 
 -- ---- one cue
-module _ (text : List ℕ) (n : ℕ) (r : CueAnswer) (h : r ≡ cueAnswer (pickOf (textOf text) n)) where
-  pub picked : (ls : List Said) → textOf text ≡ ok ls → (c : Cue) → cueAt (cuesOf ls) n ≡ some c → (r .refused ≡ 0) × GivesCue ls n c r
+module _ (text : List ℕ) (n : ℕ) (r : CueAnswer) (h : r ≡ cueAnswer (pickOf (idxOf text) n)) where
+  pub picked : (t : ListedText) → idxOf text ≡ ok t → (c : Cue) → cueAt (cuesOf t) n ≡ some c → (r .refused ≡ 0) × GivesCue t n c r
   unfolding pickOf cueAnswer
-  picked ls e c f =
-      let p : pickOf (textOf text) n ≡ ok (record { cue = c; duration = durationOf (cuesOf ls) n; palette = paletteOf ls; coloured = hasPalette ls }) = rw (e, f) in
+  picked t e c f =
+      let p : pickOf (idxOf text) n ≡ ok (record { cue = c; duration = durationOf (cuesOf t) n; palette = paletteOf t; coloured = hasPalette t }) = rw (e, f) in
       let q = h ∙ ap cueAnswer p in (
         ap (λ (a : CueAnswer). a .refused) q,
         record {
@@ -90,27 +91,28 @@ module _ (text : List ℕ) (n : ℕ) (r : CueAnswer) (h : r ≡ cueAnswer (pickO
         },
       )
 
-  pub has : (lines : Res (List Said)) → textOf text ≡ lines → r .refused ≡ 0 → (ls : List Said) × (textOf text ≡ ok ls) × (n < length (cuesOf ls))
+  pub has : (x : Res ListedText) → idxOf text ≡ x → r .refused ≡ 0
+      → (t : ListedText) × (idxOf text ≡ ok t) × (n < length (cuesOf t))
   unfolding pickOf cueAnswer
   has (refuse m) e z =
-      let p : pickOf (textOf text) n ≡ refuse m = rw e in
+      let p : pickOf (idxOf text) n ≡ refuse m = rw e in
       let q : r .refused ≡ m = ap (λ (a : CueAnswer). a .refused) (h ∙ ap cueAnswer p) in
       absurd (text-refuses none text m e (sym q ∙ z))
-  has (ok ls) e z = (ls, e, ⊎-elim (λ l. absurd (past l)) (λ l. l) (le-or-lt (length (cuesOf ls)) n))
+  has (ok t) e z = (t, e, ⊎-elim (λ l. absurd (past l)) (λ l. l) (le-or-lt (length (cuesOf t)) n))
     where
-      past : length (cuesOf ls) ≤ n → ⊥
+      past : length (cuesOf t) ≤ n → ⊥
       past l =
-          let p : pickOf (textOf text) n ≡ refuse no-cue = rw (e, cue-out (cuesOf ls) n l) in
+          let p : pickOf (idxOf text) n ≡ refuse no-cue = rw (e, cue-out (cuesOf t) n l) in
           let q : r .refused ≡ no-cue = ap (λ (a : CueAnswer). a .refused) (h ∙ ap cueAnswer p) in
           omega arith
 
   pub cue-claim : CueSays text n r
   cue-claim = record {
     exactly-when = (
-      λ z. let w = has (textOf text) refl z in (w .0, text-is none text (w .0) (w .1) .0, w .2),
+      λ z. let w = has (idxOf text) refl z in (w .0, text-is none text (w .0) (w .1) .0, w .2),
       λ w. let c = cue-in (cuesOf (w .0)) n (w .2) in picked (w .0) (text-one none text (w .0) (w .1) tt) (c .0) (c .1) .0,
     );
-    same = λ ls k c f. picked ls (text-one none text ls k tt) c f .1;
+    same = λ t k c f. picked t (text-one none text t k tt) c f .1;
   }
 
 -- the equations with the claims, as the contracts have both
@@ -118,5 +120,5 @@ pub idx-claimed : {text : List ℕ} {starts : List ℤ} {positions : List ℕ} {
     → IdxRead text starts positions r starts′ positions′ → IdxRead text starts positions r starts′ positions′ × IdxSays text starts positions r starts′ positions′
 idx-claimed {text} {starts} {positions} {r} {starts′} {positions′} d = (d, idx-claim text starts positions r starts′ positions′ d)
 
-pub cue-claimed : (text : List ℕ) (n : ℕ) {r : CueAnswer} → r ≡ cueAnswer (pickOf (textOf text) n) → (r ≡ cueAnswer (pickOf (textOf text) n)) × CueSays text n r
+pub cue-claimed : (text : List ℕ) (n : ℕ) {r : CueAnswer} → r ≡ cueAnswer (pickOf (idxOf text) n) → (r ≡ cueAnswer (pickOf (idxOf text) n)) × CueSays text n r
 cue-claimed text n {r} d = (d, cue-claim text n r d)

@@ -7,3 +7,4 @@ pub mod Whole
 pub mod Refusals
 pub mod Claim
 pub mod Cards
+pub mod NoBytes

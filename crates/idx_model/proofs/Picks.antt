@@ -14,13 +14,13 @@ use borrow.Author.Tests.{eq-eqb, ne-eqb, lt-ltb}
 use Rattle.outcome.specs.Outcome.{Res, ok, refuse, check, andThen, no-cue, short-cues}
 use Rattle.grammar.specs.Parts.{Part}
 use Rattle.grammar.specs.IndexParts.{line-end}
-use Rattle.grammar.specs.Index.{Said, size, palette, timestamp}
-use Rattle.grammar.specs.IndexCues.{Cue, cuesOf, cueAt, paletteOf, some-token, hasPalette, sizeFrom, displaySize, durationOf, clip}
+use Rattle.grammar.specs.Index.{Said, size, palette, timestamp, of-lines}
+use Rattle.grammar.specs.IndexCues.{Cue, cuesOfLines, cueAt, paletteOfLines, some-token, linesHavePalette, sizeFrom, sizeOfLines, durationOf, clip}
 use Rattle.grammar.specs.IndexCues as cues
 use Rattle.idx_numbers_model.specs.Parts.{part, push, all, trim, split}
 use Rattle.idx_numbers_model.proofs.Grammar.{never}
 use Rattle.idx_lines_model.specs.Lines.{lineOf}
-use Rattle.idx_model.specs.Text.{orNone, cuesIn, roomFor, linesIn, textIn, textOf}
+use Rattle.idx_model.specs.Text.{orNone, cuesIn, roomFor, linesIn, textIn, idxIn, idxOf}
 use Rattle.idx_model.specs.Answers.{nothing-seen, seeAll, idxAnswer, pickOf, cueAnswer}
 use Rattle.idx_model.specs.declared.Seen.{Seen}
 
@@ -45,8 +45,8 @@ pick-at f (x ∷ cs) n (suc m) d c e =
     rw (ne-eqb n (n + suc m) (λ q. omega arith), z) (pick-at f cs (n + 1) m d c e)
 
 -- ---- the fields of what was seen
-see-cues : (cue : ℕ) (s : Seen) (ls : List Said) → seeAll cue s ls .cues ≡ s .cues + length (cuesOf ls)
-unfolding seeAll cuesOf
+see-cues : (cue : ℕ) (s : Seen) (ls : List Said) → seeAll cue s ls .cues ≡ s .cues + length (cuesOfLines ls)
+unfolding seeAll cuesOfLines
 see-cues cue s [] = sym (add-zero (s .cues))
 see-cues cue s (size l w h ∷ ls) = see-cues cue _ ls
 see-cues cue s (palette l ts ∷ ls) = see-cues cue _ ls
@@ -69,29 +69,29 @@ or-none : (a : Bool) → a ≡ a || false
 or-none true = refl
 or-none false = refl
 
-see-palette : (cue : ℕ) (s : Seen) (ls : List Said) → seeAll cue s ls .«has_palette» ≡ s .«has_palette» || hasPalette ls
-unfolding seeAll hasPalette
+see-palette : (cue : ℕ) (s : Seen) (ls : List Said) → seeAll cue s ls .«has_palette» ≡ s .«has_palette» || linesHavePalette ls
+unfolding seeAll linesHavePalette
 see-palette cue s [] = or-none (s .«has_palette»)
 see-palette cue s (size l w h ∷ ls) = see-palette cue _ ls
-see-palette cue s (palette l ts ∷ ls) = see-palette cue _ ls ∙ or-swap (some-token ts) (s .«has_palette») (hasPalette ls)
+see-palette cue s (palette l ts ∷ ls) = see-palette cue _ ls ∙ or-swap (some-token ts) (s .«has_palette») (linesHavePalette ls)
 see-palette cue s (timestamp l ps fs v ∷ ls) = see-palette cue _ ls
 
-see-start : (cue : ℕ) (s : Seen) (ls : List Said) → seeAll cue s ls .start ≡ pickFrom (λ c. c .start) (s .cues) cue (s .start) (cuesOf ls)
-unfolding seeAll cuesOf pickFrom
+see-start : (cue : ℕ) (s : Seen) (ls : List Said) → seeAll cue s ls .start ≡ pickFrom (λ c. c .start) (s .cues) cue (s .start) (cuesOfLines ls)
+unfolding seeAll cuesOfLines pickFrom
 see-start cue s [] = refl
 see-start cue s (size l w h ∷ ls) = see-start cue _ ls
 see-start cue s (palette l ts ∷ ls) = see-start cue _ ls
 see-start cue s (timestamp l ps fs v ∷ ls) = see-start cue _ ls
 
-see-position : (cue : ℕ) (s : Seen) (ls : List Said) → seeAll cue s ls .position ≡ pickFrom (λ c. c .position) (s .cues) cue (s .position) (cuesOf ls)
-unfolding seeAll cuesOf pickFrom
+see-position : (cue : ℕ) (s : Seen) (ls : List Said) → seeAll cue s ls .position ≡ pickFrom (λ c. c .position) (s .cues) cue (s .position) (cuesOfLines ls)
+unfolding seeAll cuesOfLines pickFrom
 see-position cue s [] = refl
 see-position cue s (size l w h ∷ ls) = see-position cue _ ls
 see-position cue s (palette l ts ∷ ls) = see-position cue _ ls
 see-position cue s (timestamp l ps fs v ∷ ls) = see-position cue _ ls
 
-see-next : (cue : ℕ) (s : Seen) (ls : List Said) → seeAll cue s ls .next ≡ pickFrom (λ c. c .start) (s .cues) (cue + 1) (s .next) (cuesOf ls)
-unfolding seeAll cuesOf pickFrom
+see-next : (cue : ℕ) (s : Seen) (ls : List Said) → seeAll cue s ls .next ≡ pickFrom (λ c. c .start) (s .cues) (cue + 1) (s .next) (cuesOfLines ls)
+unfolding seeAll cuesOfLines pickFrom
 see-next cue s [] = refl
 see-next cue s (size l w h ∷ ls) = see-next cue _ ls
 see-next cue s (palette l ts ∷ ls) = see-next cue _ ls
@@ -129,17 +129,17 @@ next-duration (x ∷ y ∷ cs) zero c d e f =
 next-duration (x ∷ y ∷ cs) (suc n) c d e f = next-duration (y ∷ cs) n c d e f
 
 -- ---- the answers
-module _ (cue : ℕ) (ls : List Said) (seen : Seen) (all : seen ≡ seeAll cue nothing-seen ls) (p : List ℕ) (hues : p ≡ paletteOf ls) where
-  cues-are : seen .cues ≡ length (cuesOf ls)
-  cues-are = ap (λ (s : Seen). s .cues) all ∙ see-cues cue nothing-seen ls ∙ zero-add (length (cuesOf ls))
+module _ (cue : ℕ) (ls : List Said) (seen : Seen) (all : seen ≡ seeAll cue nothing-seen ls) (p : List ℕ) (hues : p ≡ paletteOfLines ls) where
+  cues-are : seen .cues ≡ length (cuesOfLines ls)
+  cues-are = ap (λ (s : Seen). s .cues) all ∙ see-cues cue nothing-seen ls ∙ zero-add (length (cuesOfLines ls))
 
-  coloured-is : seen .«has_palette» ≡ hasPalette ls
+  coloured-is : seen .«has_palette» ≡ linesHavePalette ls
   coloured-is = ap (λ (s : Seen). s .«has_palette») all ∙ see-palette cue nothing-seen ls
 
-  size-is : cues.sizeIs (seen .width) (seen .height) ≡ displaySize ls
+  size-is : cues.sizeIs (seen .width) (seen .height) ≡ sizeOfLines ls
   size-is = ap (λ (s : Seen). cues.sizeIs (s .width) (s .height)) all ∙ see-size cue nothing-seen ls
 
-  pub idx-answer : record { refused = 0; width = seen .width; height = seen .height; «has_palette» = seen .«has_palette»; palette = p; cues = seen .cues } ≡ idxAnswer (ok ls)
+  pub idx-answer : record { refused = 0; width = seen .width; height = seen .height; «has_palette» = seen .«has_palette»; palette = p; cues = seen .cues } ≡ idxAnswer (ok (of-lines ls))
   unfolding idxAnswer
   idx-answer = λ i. record {
     refused = 0;
@@ -150,35 +150,35 @@ module _ (cue : ℕ) (ls : List Said) (seen : Seen) (all : seen ≡ seeAll cue n
     cues = cues-are i;
   }
 
-  pub pick-none : seen .cues ≤ cue → cueAnswer (refuse no-cue) ≡ cueAnswer (pickOf (ok ls) cue)
+  pub pick-none : seen .cues ≤ cue → cueAnswer (refuse no-cue) ≡ cueAnswer (pickOf (ok (of-lines ls)) cue)
   unfolding pickOf
-  pick-none h = rw (cue-out (cuesOf ls) cue (omega (arith, cues-are)))
+  pick-none h = rw (cue-out (cuesOfLines ls) cue (omega (arith, cues-are)))
 
-  start-is : (c : Cue) → cueAt (cuesOf ls) cue ≡ some c → seen .start ≡ c .start
+  start-is : (c : Cue) → cueAt (cuesOfLines ls) cue ≡ some c → seen .start ≡ c .start
   start-is c e =
       ap (λ (s : Seen). s .start) all ∙ see-start cue nothing-seen ls
-      ∙ ap (λ (k : ℕ). pickFrom (λ x. x .start) 0 k (pos 0) (cuesOf ls)) (sym (zero-add cue))
-      ∙ pick-at (λ x. x .start) (cuesOf ls) 0 cue (pos 0) c e
+      ∙ ap (λ (k : ℕ). pickFrom (λ x. x .start) 0 k (pos 0) (cuesOfLines ls)) (sym (zero-add cue))
+      ∙ pick-at (λ x. x .start) (cuesOfLines ls) 0 cue (pos 0) c e
 
-  position-is : (c : Cue) → cueAt (cuesOf ls) cue ≡ some c → seen .position ≡ c .position
+  position-is : (c : Cue) → cueAt (cuesOfLines ls) cue ≡ some c → seen .position ≡ c .position
   position-is c e =
       ap (λ (s : Seen). s .position) all ∙ see-position cue nothing-seen ls
-      ∙ ap (λ (k : ℕ). pickFrom (λ x. x .position) 0 k 0 (cuesOf ls)) (sym (zero-add cue))
-      ∙ pick-at (λ x. x .position) (cuesOf ls) 0 cue 0 c e
+      ∙ ap (λ (k : ℕ). pickFrom (λ x. x .position) 0 k 0 (cuesOfLines ls)) (sym (zero-add cue))
+      ∙ pick-at (λ x. x .position) (cuesOfLines ls) 0 cue 0 c e
 
-  next-is : (d : Cue) → cueAt (cuesOf ls) (cue + 1) ≡ some d → seen .next ≡ d .start
+  next-is : (d : Cue) → cueAt (cuesOfLines ls) (cue + 1) ≡ some d → seen .next ≡ d .start
   next-is d e =
       ap (λ (s : Seen). s .next) all ∙ see-next cue nothing-seen ls
-      ∙ ap (λ (k : ℕ). pickFrom (λ x. x .start) 0 k (pos 0) (cuesOf ls)) (sym (zero-add (cue + 1)))
-      ∙ pick-at (λ x. x .start) (cuesOf ls) 0 (cue + 1) (pos 0) d e
+      ∙ ap (λ (k : ℕ). pickFrom (λ x. x .start) 0 k (pos 0) (cuesOfLines ls)) (sym (zero-add (cue + 1)))
+      ∙ pick-at (λ x. x .start) (cuesOfLines ls) 0 (cue + 1) (pos 0) d e
 
   pub pick-last : cue < seen .cues → seen .cues - cue ≡ 1 → (y : ℤ) → y ≡ seen .start
       → record { refused = 0; start = y; position = seen .position; «has_duration» = false; duration = 0; «has_palette» = seen .«has_palette»; palette = p }
-      ≡ cueAnswer (pickOf (ok ls) cue)
+      ≡ cueAnswer (pickOf (ok (of-lines ls)) cue)
   unfolding pickOf cueAnswer
   pick-last h l y g =
-      let c = cue-in (cuesOf ls) cue (omega (arith, cues-are)) in
-      rw (c .1, last-duration (cuesOf ls) cue (omega (arith, cues-are)))
+      let c = cue-in (cuesOfLines ls) cue (omega (arith, cues-are)) in
+      rw (c .1, last-duration (cuesOfLines ls) cue (omega (arith, cues-are)))
       (λ i. record {
         refused = 0;
         start = (g ∙ start-is (c .0) (c .1)) i;
@@ -191,14 +191,14 @@ module _ (cue : ℕ) (ls : List Said) (seen : Seen) (all : seen ≡ seeAll cue n
 
   pub pick-next : cue < seen .cues → (seen .cues - cue ≡ 1 → ⊥) → (y : ℤ) → y ≡ seen .start → (t : ℕ) → t ≡ clip (seen .next -ℤ seen .start)
       → record { refused = 0; start = y; position = seen .position; «has_duration» = true; duration = t; «has_palette» = seen .«has_palette»; palette = p }
-      ≡ cueAnswer (pickOf (ok ls) cue)
+      ≡ cueAnswer (pickOf (ok (of-lines ls)) cue)
   unfolding pickOf cueAnswer
   pick-next h n y g t f =
-      let k : cue + 1 < length (cuesOf ls) = omega (arith, cues-are) in
-      let c = cue-in (cuesOf ls) cue (omega (arith, cues-are)) in
-      let d = cue-in (cuesOf ls) (cue + 1) k in
+      let k : cue + 1 < length (cuesOfLines ls) = omega (arith, cues-are) in
+      let c = cue-in (cuesOfLines ls) cue (omega (arith, cues-are)) in
+      let d = cue-in (cuesOfLines ls) (cue + 1) k in
       let s : t ≡ clip (d .0 .start -ℤ c .0 .start) = f ∙ ap (λ (x : ℤ). clip (x -ℤ seen .start)) (next-is (d .0) (d .1)) ∙ ap (λ (x : ℤ). clip (d .0 .start -ℤ x)) (start-is (c .0) (c .1)) in
-      rw (c .1, next-duration (cuesOf ls) cue (c .0) (d .0) (c .1) (ap (cueAt (cuesOf ls)) (sym (add-one cue)) ∙ d .1))
+      rw (c .1, next-duration (cuesOfLines ls) cue (c .0) (d .0) (c .1) (ap (cueAt (cuesOfLines ls)) (sym (add-one cue)) ∙ d .1))
       (λ i. record {
         refused = 0;
         start = (g ∙ start-is (c .0) (c .1)) i;
@@ -246,6 +246,11 @@ lines-open (p ∷ ps) n k h = go (λ j l. lines-open ps n j l) (lineOf (trim p))
     go ih (refuse m) = refl
     go ih (ok o) = rw (room-open n k o (omega arith), ih (k + cuesIn o) (omega (arith, few-cues o)))
 
-pub text-open : (text : List ℕ) (n : ℕ) → length text < n → textIn (some n) text ≡ textOf text
+text-lines-open : (text : List ℕ) (n : ℕ) → length text < n → textIn (some n) text ≡ textIn none text
 unfolding textIn
-text-open text n h = rw (lines-open (split line-end 0 text) n 0 (omega (arith, split-few line-end 0 text)))
+text-lines-open text n h = rw (lines-open (split line-end 0 text) n 0 (omega (arith, split-few line-end 0 text)))
+
+pub text-open : (text : List ℕ) (n : ℕ) → length text < n → idxIn (some n) text ≡ idxOf text
+unfolding idxIn
+text-open [] n h = rw (lt-ltb 0 n h)
+text-open (b ∷ s) n h = rw (text-lines-open (b ∷ s) n h)

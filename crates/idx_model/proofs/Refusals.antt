@@ -3,19 +3,19 @@ use Prim.Native.Nat.{ℕ, _+_}
 use mathlib.Core.Path.{_≡_, refl, subst}
 use mathlib.Core.Option.{Option, some, none}
 use mathlib.Core.List.{List, [], _∷_}
-use Rattle.outcome.proofs.Numbers.{in-table, check-numbered, need-numbered, andThen-numbered, refused-also}
+use Rattle.outcome.proofs.Numbers.{in-table, check-numbered, need-numbered, andThen-numbered, mapRes-numbered, refused-also}
 use Rattle.outcome.specs.Outcome.{InTable, ok, refuse, need, high-byte, short-cues, no-cue, RefusedWith, Numbered, bad-width, bad-token, bad-position}
 use Rattle.grammar.specs.Parts.{Part}
 use Rattle.grammar.specs.IndexParts.{line-end}
 use Rattle.grammar.specs.IndexCues.{cuesOf, cueAt}
 use Rattle.idx_numbers_model.specs.Parts.{all, trim, split, strip, front, rest, shorn}
 use Rattle.idx_lines_model.specs.Lines.{lineOf, tokens, partsAt, firstOf, lastOf, fields, steps}
-use Rattle.idx_model.specs.Text.{orNone, cuesIn, roomFor, linesIn, lowByte, textIn, textOf}
+use Rattle.idx_model.specs.Text.{orNone, cuesIn, roomAfter, roomFor, linesIn, lowByte, textIn, idxIn, idxOf}
 use Rattle.idx_model.specs.Answers.{pickOf}
 use Rattle.idx_lines_model.proofs.Refusals.{TextNumber, text-number, line-numbered}
 use Rattle.outcome.proofs.Numbers.{not-0}
 use Rattle.grammar.specs.IndexNumbers.{numeral}
-use Rattle.grammar.specs.Index.{startOf}
+use Rattle.grammar.specs.Index.{startOf, greys, of-lines, no-bytes}
 use Rattle.idx_numbers_model.specs.Numbers.{unsigned, signed, bare}
 
 lines-numbered : (room : Option ℕ) (ps : List Part) (k : ℕ) → RefusedWith TextNumber (linesIn room k ps)
@@ -26,45 +26,51 @@ lines-numbered room (p ∷ ps) k =
     (λ o. check-numbered TextNumber (roomFor room k o) short-cues _ (text-number short-cues refl refl)
     (andThen-numbered TextNumber (linesIn room (k + cuesIn o) ps) (λ ls. ok (orNone o ls)) (lines-numbered room ps (k + cuesIn o)) (λ ls. tt)))
 
-text-refused : (room : Option ℕ) (text : List ℕ) → RefusedWith TextNumber (textIn room text)
+text-lines-refused : (room : Option ℕ) (text : List ℕ) → RefusedWith TextNumber (textIn room text)
 unfolding textIn
-text-refused room text =
+text-lines-refused room text =
     check-numbered TextNumber (all lowByte text) high-byte (linesIn room 0 (split line-end 0 text)) (text-number high-byte refl refl) (lines-numbered room (split line-end 0 text) 0)
 
-pub text-numbered : (room : Option ℕ) (text : List ℕ) → Numbered (textIn room text)
-text-numbered room text = refused-also TextNumber InTable (λ n h. h .listed) (textIn room text) (text-refused room text)
+text-refused : (room : Option ℕ) (text : List ℕ) → RefusedWith TextNumber (idxIn room text)
+unfolding idxIn
+text-refused room [] =
+    check-numbered TextNumber (roomAfter room 0) short-cues (ok (no-bytes greys)) (text-number short-cues refl refl) tt
+text-refused room (b ∷ s) = mapRes-numbered TextNumber of-lines (textIn room (b ∷ s)) (text-lines-refused room (b ∷ s))
+
+pub text-numbered : (room : Option ℕ) (text : List ℕ) → Numbered (idxIn room text)
+text-numbered room text = refused-also TextNumber InTable (λ n h. h .listed) (idxIn room text) (text-refused room text)
 
 -- and never with 11
-pub text-not-11 : (room : Option ℕ) (text : List ℕ) (n : ℕ) → textIn room text ≡ refuse n → n ≡ no-cue → ⊥
+pub text-not-11 : (room : Option ℕ) (text : List ℕ) (n : ℕ) → idxIn room text ≡ refuse n → n ≡ no-cue → ⊥
 text-not-11 room text n e = subst (RefusedWith TextNumber) e (text-refused room text) .not-no-cue
 
-pub text-refuses : (room : Option ℕ) (text : List ℕ) (n : ℕ) → textIn room text ≡ refuse n → n ≡ 0 → ⊥
+pub text-refuses : (room : Option ℕ) (text : List ℕ) (n : ℕ) → idxIn room text ≡ refuse n → n ≡ 0 → ⊥
 text-refuses room text n e z = not-0 n (subst Numbered e (text-numbered room text)) z
 
-pub pick-numbered : (text : List ℕ) (n : ℕ) → Numbered (pickOf (textOf text) n)
+pub pick-numbered : (text : List ℕ) (n : ℕ) → Numbered (pickOf (idxOf text) n)
 unfolding pickOf
 pick-numbered text n =
-    andThen-numbered InTable (textOf text) _ (text-numbered none text)
-    (λ ls. andThen-numbered InTable (need no-cue (cueAt (cuesOf ls) n)) _ (need-numbered InTable no-cue (cueAt (cuesOf ls) n) (in-table no-cue refl)) (λ c. tt))
+    andThen-numbered InTable (idxOf text) _ (text-numbered none text)
+    (λ t. andThen-numbered InTable (need no-cue (cueAt (cuesOf t) n)) _ (need-numbered InTable no-cue (cueAt (cuesOf t) n) (in-table no-cue refl)) (λ c. tt))
 
 -- each order of FORMAT 9: a text and the room of the cue buffers on which both are true, and the number that is given
 pub orders :
     -- 1, and 2: `size:x` and a byte 80
-    (textIn none (115 ∷ 105 ∷ 122 ∷ 101 ∷ 58 ∷ 120 ∷ 128 ∷ []) ≡ refuse high-byte)
+    (idxIn none (115 ∷ 105 ∷ 122 ∷ 101 ∷ 58 ∷ 120 ∷ 128 ∷ []) ≡ refuse high-byte)
     -- of two faulty lines the first: `palette:g`, `size:x`
-    × (textIn none (112 ∷ 97 ∷ 108 ∷ 101 ∷ 116 ∷ 116 ∷ 101 ∷ 58 ∷ 103 ∷ 10 ∷ 115 ∷ 105 ∷ 122 ∷ 101 ∷ 58 ∷ 120 ∷ []) ≡ refuse bad-token)
+    × (idxIn none (112 ∷ 97 ∷ 108 ∷ 101 ∷ 116 ∷ 116 ∷ 101 ∷ 58 ∷ 103 ∷ 10 ∷ 115 ∷ 105 ∷ 122 ∷ 101 ∷ 58 ∷ 120 ∷ []) ≡ refuse bad-token)
     -- 9, and 10 of one line: `timestamp:0,filepos:`, and no place
-    × (textIn (some 0) (116 ∷ 105 ∷ 109 ∷ 101 ∷ 115 ∷ 116 ∷ 97 ∷ 109 ∷ 112 ∷ 58 ∷ 48 ∷ 44 ∷ 102 ∷ 105 ∷ 108 ∷ 101 ∷ 112 ∷ 111 ∷ 115 ∷ 58 ∷ []) ≡ refuse bad-position)
+    × (idxIn (some 0) (116 ∷ 105 ∷ 109 ∷ 101 ∷ 115 ∷ 116 ∷ 97 ∷ 109 ∷ 112 ∷ 58 ∷ 48 ∷ 44 ∷ 102 ∷ 105 ∷ 108 ∷ 101 ∷ 112 ∷ 111 ∷ 115 ∷ 58 ∷ []) ≡ refuse bad-position)
     -- 10, and then 2: `timestamp:0,filepos:0`, `size:x`, and no place
-    × (textIn (some 0) (116 ∷ 105 ∷ 109 ∷ 101 ∷ 115 ∷ 116 ∷ 97 ∷ 109 ∷ 112 ∷ 58 ∷ 48 ∷ 44 ∷ 102 ∷ 105 ∷ 108 ∷ 101 ∷ 112 ∷ 111 ∷ 115 ∷ 58 ∷ 48 ∷ 10 ∷ 115 ∷ 105 ∷ 122 ∷ 101 ∷ 58 ∷ 120 ∷ []) ≡ refuse short-cues)
+    × (idxIn (some 0) (116 ∷ 105 ∷ 109 ∷ 101 ∷ 115 ∷ 116 ∷ 97 ∷ 109 ∷ 112 ∷ 58 ∷ 48 ∷ 44 ∷ 102 ∷ 105 ∷ 108 ∷ 101 ∷ 112 ∷ 111 ∷ 115 ∷ 58 ∷ 48 ∷ 10 ∷ 115 ∷ 105 ∷ 122 ∷ 101 ∷ 58 ∷ 120 ∷ []) ≡ refuse short-cues)
     -- 2, and then 10: `size:x`, `timestamp:0,filepos:0`, and no place
-    × (textIn (some 0) (115 ∷ 105 ∷ 122 ∷ 101 ∷ 58 ∷ 120 ∷ 10 ∷ 116 ∷ 105 ∷ 109 ∷ 101 ∷ 115 ∷ 116 ∷ 97 ∷ 109 ∷ 112 ∷ 58 ∷ 48 ∷ 44 ∷ 102 ∷ 105 ∷ 108 ∷ 101 ∷ 112 ∷ 111 ∷ 115 ∷ 58 ∷ 48 ∷ []) ≡ refuse bad-width)
-unfolding textIn linesIn lineOf tokens strip trim front rest shorn split partsAt firstOf lastOf fields steps unsigned signed bare all numeral startOf
+    × (idxIn (some 0) (115 ∷ 105 ∷ 122 ∷ 101 ∷ 58 ∷ 120 ∷ 10 ∷ 116 ∷ 105 ∷ 109 ∷ 101 ∷ 115 ∷ 116 ∷ 97 ∷ 109 ∷ 112 ∷ 58 ∷ 48 ∷ 44 ∷ 102 ∷ 105 ∷ 108 ∷ 101 ∷ 112 ∷ 111 ∷ 115 ∷ 58 ∷ 48 ∷ []) ≡ refuse bad-width)
+unfolding idxIn textIn linesIn lineOf tokens strip trim front rest shorn split partsAt firstOf lastOf fields steps unsigned signed bare all numeral startOf
 orders = (refl, refl, refl, refl, refl)
 
 -- 4, and 11: `palette:g`, of which no cue is the first
 pub cue-orders :
     -- 4, and 11
-    (pickOf (textOf (112 ∷ 97 ∷ 108 ∷ 101 ∷ 116 ∷ 116 ∷ 101 ∷ 58 ∷ 103 ∷ [])) 0 ≡ refuse bad-token)
-unfolding pickOf textIn linesIn lineOf tokens strip trim front rest shorn split unsigned bare all numeral
+    (pickOf (idxOf (112 ∷ 97 ∷ 108 ∷ 101 ∷ 116 ∷ 116 ∷ 101 ∷ 58 ∷ 103 ∷ [])) 0 ≡ refuse bad-token)
+unfolding pickOf idxIn textIn linesIn lineOf tokens strip trim front rest shorn split unsigned bare all numeral
 cue-orders = refl

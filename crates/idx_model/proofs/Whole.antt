@@ -1,16 +1,17 @@
 -- From what was measured to the answers, over plain variables. Assumes nothing.
 use Prim.Native.Nat.{ℕ, _<_, min}
 use mathlib.Core.Path.{_≡_, refl, sym, ap, _∙_, subst}
-use mathlib.Core.Option.{some}
-use mathlib.Core.List.{List}
+use mathlib.Core.Option.{Option, some}
+use mathlib.Core.List.{List, [], _∷_}
 use lib.IntN.{ℤ}
 use lib.ListN.{length}
-use Rattle.outcome.specs.Outcome.{Res, ok, refuse, IsOk}
-use Rattle.grammar.specs.Index.{Said}
-use Rattle.grammar.specs.IndexCues.{cuesOf, first-palette, paletteOf}
+use lib.Seq.{sets}
+use Rattle.outcome.specs.Outcome.{Res, ok, refuse, mapRes, listed, IsOk}
+use Rattle.grammar.specs.Index.{Said, ListedText, of-lines}
+use Rattle.grammar.specs.IndexCues.{cuesOfLines, first-palette, paletteOfLines}
 use Rattle.idx_numbers_model.proofs.Grammar.{never}
-use Rattle.idx_model.specs.Text.{textIn, textOf}
-use Rattle.idx_model.specs.Answers.{nothing-seen, seeAll, measuredOf, MeasuredAs, CuesStored, linesWith, idxAnswer, IdxRead, pickOf, cueAnswer}
+use Rattle.idx_model.specs.Text.{textIn, idxIn, idxOf}
+use Rattle.idx_model.specs.Answers.{nothing-seen, seeAll, measuredOf, MeasuredAs, startsOf, positionsOf, CuesStored, idxAnswer, linesWith, idxWith, IdxRead, pickOf, cueAnswer}
 use Rattle.idx_model.specs.declared.Seen.{Seen}
 use Rattle.idx_model.specs.declared.Measured.{Measured}
 use Rattle.idx_model.specs.declared.Measured.the-variants as measured
@@ -28,44 +29,72 @@ pub measured-saw : (cue : ℕ) (lines : Res (List Said)) (r : Measured) (s : See
 measured-saw cue (ok ls) r s e f = (ls, refl, cc)
 measured-saw cue (refuse m) r s e f = never (cc)
 
+-- ---- a text with a byte
+with-bytes : (room : Option ℕ) (text : List ℕ) → (length text ≡ 0 → ⊥)
+    → idxIn room text ≡ mapRes of-lines (textIn room text)
+unfolding idxIn
+with-bytes room [] h = absurd (h refl)
+with-bytes room (b ∷ s) h = refl
+
 -- ---- `parse_idx`
-module _ (text : List ℕ) (starts : List ℤ) (positions : List ℕ) (room : ℕ) (short : room ≡ min (length starts) (length positions))
+module _ (text : List ℕ) (starts : List ℤ) (positions : List ℕ) (some-byte : length text ≡ 0 → ⊥)
+    (room : ℕ) (short : room ≡ min (length starts) (length positions))
     (r : Measured) (now : List ℕ) (told : MeasuredAs 0 first-palette (textIn (some room) text) r now) where
   same : textIn (some room) text ≡ linesWith starts positions text
   same = ap (λ (n : ℕ). textIn (some n) text) short
 
+  found : (x : Res (List Said)) → linesWith starts positions text ≡ x
+      → idxWith starts positions text ≡ mapRes of-lines x
+  found x e = with-bytes (some (min (length starts) (length positions))) text some-byte ∙ ap (mapRes of-lines) e
+
   pub idx-refused : (n : ℕ) → r ≡ measured.Refused n → (a : IdxAnswer) → a ≡ idxAnswer (refuse n) → IdxRead text starts positions a starts positions
-  unfolding cuesOf
   idx-refused n e a f =
-      let q : linesWith starts positions text ≡ refuse n = sym same ∙ measured-refused 0 (textIn (some room) text) r n (told .says) e in
-      record { answer = f ∙ ap idxAnswer (sym q); stored = record { starts-are = rw q; positions-are = rw q } }
+      let q : idxWith starts positions text ≡ refuse n = found (refuse n) (sym same ∙ measured-refused 0 (textIn (some room) text) r n (told .says) e) in
+      record { answer = f ∙ ap idxAnswer (sym q); starts-are = rw q; positions-are = rw q }
 
   module _ (s : Seen) (e : r ≡ measured.Saw s) where
     lines : (ls : List Said) × (textIn (some room) text ≡ ok ls) × (s ≡ seeAll 0 nothing-seen ls)
     lines = measured-saw 0 (textIn (some room) text) r s (told .says) e
 
-    pub idx-is-ok : IsOk (linesWith starts positions text)
-    idx-is-ok = subst (λ (x : Res (List Said)). IsOk x) (sym (sym same ∙ lines .1)) tt
+    are : linesWith starts positions text ≡ ok (lines .0)
+    are = sym same ∙ lines .1
 
-    pub idx-accepted : (a : IdxAnswer) → ((ls : List Said) (cue : ℕ) → s ≡ seeAll cue nothing-seen ls → now ≡ paletteOf ls → a ≡ idxAnswer (ok ls))
+    pub idx-is-ok : IsOk (linesWith starts positions text)
+    idx-is-ok = subst (λ (x : Res (List Said)). IsOk x) (sym are) tt
+
+    pub idx-accepted : (a : IdxAnswer)
+        → ((ls : List Said) (cue : ℕ) → s ≡ seeAll cue nothing-seen ls → now ≡ paletteOfLines ls
+        → a ≡ idxAnswer (ok (of-lines ls)))
         → (starts′ : List ℤ) (positions′ : List ℕ) → CuesStored (linesWith starts positions text) starts positions starts′ positions′
         → IdxRead text starts positions a starts′ positions′
     idx-accepted a f starts′ positions′ h =
-        record { answer = f (lines .0) 0 (lines .2) (told .palette (lines .0) (lines .1)) ∙ ap idxAnswer (sym (sym same ∙ lines .1)); stored = h }
+        let q : idxWith starts positions text ≡ ok (of-lines (lines .0)) = found (ok (lines .0)) are in
+        record {
+          answer = f (lines .0) 0 (lines .2) (told .palette (lines .0) (lines .1)) ∙ ap idxAnswer (sym q);
+          starts-are =
+              rw q
+              (h .starts-are ∙ ap (λ (x : Res (List Said)). sets starts 0 (startsOf (cuesOfLines (listed x)))) are);
+          positions-are =
+              rw q
+              (h .positions-are
+              ∙ ap (λ (x : Res (List Said)). sets positions 0 (positionsOf (cuesOfLines (listed x)))) are);
+        }
 
 -- ---- `pick_cue`
-module _ (text : List ℕ) (cue room : ℕ) (large : length text < room) (r : Measured) (now : List ℕ) (told : MeasuredAs cue first-palette (textIn (some room) text) r now) where
-  open-text : textIn (some room) text ≡ textOf text
-  open-text = text-open text room large
+module _ (text : List ℕ) (some-byte : length text ≡ 0 → ⊥) (cue room : ℕ) (large : length text < room)
+    (r : Measured) (now : List ℕ) (told : MeasuredAs cue first-palette (textIn (some room) text) r now) where
+  read : (x : Res (List Said)) → textIn (some room) text ≡ x → idxOf text ≡ mapRes of-lines x
+  read x e = sym (text-open text room large) ∙ with-bytes (some room) text some-byte ∙ ap (mapRes of-lines) e
 
-  pub cue-refused : (n : ℕ) → r ≡ measured.Refused n → (a : CueAnswer) → a ≡ cueAnswer (refuse n) → a ≡ cueAnswer (pickOf (textOf text) cue)
+  pub cue-refused : (n : ℕ) → r ≡ measured.Refused n → (a : CueAnswer) → a ≡ cueAnswer (refuse n) → a ≡ cueAnswer (pickOf (idxOf text) cue)
   unfolding pickOf
-  cue-refused n e a f =
-      let q : textOf text ≡ refuse n = sym open-text ∙ measured-refused cue (textIn (some room) text) r n (told .says) e in
-      f ∙ rw q
+  cue-refused n e a f = f ∙ rw (read (refuse n) (measured-refused cue (textIn (some room) text) r n (told .says) e))
 
-  pub cue-picked : (s : Seen) → r ≡ measured.Saw s → (a : CueAnswer) → ((ls : List Said) → s ≡ seeAll cue nothing-seen ls → now ≡ paletteOf ls → a ≡ cueAnswer (pickOf (ok ls) cue))
-      → a ≡ cueAnswer (pickOf (textOf text) cue)
+  pub cue-picked : (s : Seen) → r ≡ measured.Saw s → (a : CueAnswer)
+      → ((ls : List Said) → s ≡ seeAll cue nothing-seen ls → now ≡ paletteOfLines ls
+      → a ≡ cueAnswer (pickOf (ok (of-lines ls)) cue))
+      → a ≡ cueAnswer (pickOf (idxOf text) cue)
   cue-picked s e a f =
       let w = measured-saw cue (textIn (some room) text) r s (told .says) e in
-      f (w .0) (w .2) (told .palette (w .0) (w .1)) ∙ ap (λ (x : Res (List Said)). cueAnswer (pickOf x cue)) (sym (sym open-text ∙ w .1))
+      f (w .0) (w .2) (told .palette (w .0) (w .1))
+      ∙ ap (λ (x : Res ListedText). cueAnswer (pickOf x cue)) (sym (read (ok (w .0)) (w .1)))

@@ -1,4 +1,5 @@
--- What the answers of the code mean, and what the buffers hold after a call (FORMAT 1.9 to 1.12). Assumes nothing: these are definitions.
+-- What the answers of the code mean, and what the buffers hold after a call (FORMAT 1.9 to 1.13).
+-- Assumes nothing: these are definitions.
 use Prim.Native.Nat.{ℕ, _+_, _<_, min}
 use mathlib.Core.Path.{_≡_}
 use mathlib.Core.Bool.{Bool, true, false, cond, _||_}
@@ -8,13 +9,13 @@ use lib.Dec.{eqb, ltb}
 use lib.ListN.{length, replicate}
 use lib.Seq.{sets}
 use lib.IntN.{ℤ, pos}
-use Rattle.outcome.specs.Outcome.{Res, ok, refuse, need, andThen, listed, no-cue, short-cues}
-use Rattle.grammar.specs.Index.{Said}
-use Rattle.grammar.specs.IndexCues.{Cue, cuesOf, cueAt, paletteFrom, paletteOf, hasPalette, displaySize, durationOf}
+use Rattle.outcome.specs.Outcome.{Res, ok, refuse, need, andThen, listed, listedBy, no-cue, short-cues}
+use Rattle.grammar.specs.Index.{Said, ListedText}
+use Rattle.grammar.specs.IndexCues.{Cue, cuesOfLines, cuesOf, cueAt, paletteFrom, paletteOf, hasPalette, displaySize, durationOf}
 use Rattle.idx_lines_model.specs.Answers.{Value, sized, coloured, cued, valueOf}
 use Rattle.idx_lines_model.specs.declared.Line.{Line}
 use Rattle.idx_lines_model.specs.declared.Line.the-variants as line
-use Rattle.idx_model.specs.Text.{textIn}
+use Rattle.idx_model.specs.Text.{textIn, idxIn}
 use Rattle.idx_model.specs.declared.Seen.{Seen}
 use Rattle.idx_model.specs.declared.Measured.{Measured}
 use Rattle.idx_model.specs.declared.Measured.the-variants as measured
@@ -81,11 +82,11 @@ pub record MeasuredAs (cue : ℕ) (was : List ℕ) (lines : Res (List Said)) (r 
   pub palette : (ls : List Said) → lines ≡ ok ls → now ≡ paletteFrom was ls
 
 -- ---- Cues in the lent buffers
-abbrev pub startsOf : List Said → List ℤ
-startsOf ls = map (λ (c : Cue). c .start) (cuesOf ls)
+abbrev pub startsOf : List Cue → List ℤ
+startsOf cs = map (λ (c : Cue). c .start) cs
 
-abbrev pub positionsOf : List Said → List ℕ
-positionsOf ls = map (λ (c : Cue). c .position) (cuesOf ls)
+abbrev pub positionsOf : List Cue → List ℕ
+positionsOf cs = map (λ (c : Cue). c .position) cs
 
 -- a line that adds a cue has room in both
 unfoldable pub CueFits : Line → ℕ → ℕ → ℕ → Type 0
@@ -117,8 +118,8 @@ pub record CueStored (l : Line) (n : ℕ) (starts : List ℤ) (positions : List 
 
 -- the cues of listed lines, stored
 pub record CuesStored (lines : Res (List Said)) (starts : List ℤ) (positions : List ℕ) (starts′ : List ℤ) (positions′ : List ℕ) : Type 0 where
-  pub starts-are : starts′ ≡ sets starts 0 (startsOf (listed lines))
-  pub positions-are : positions′ ≡ sets positions 0 (positionsOf (listed lines))
+  pub starts-are : starts′ ≡ sets starts 0 (startsOf (cuesOfLines (listed lines)))
+  pub positions-are : positions′ ≡ sets positions 0 (positionsOf (cuesOfLines (listed lines)))
 
 -- ---- The whole text
 
@@ -127,26 +128,31 @@ abbrev pub no-colours : List ℕ
 no-colours = replicate 48 0
 
 -- size, palette and the number of cues; 0 beside a refusal
-unfoldable pub idxAnswer : Res (List Said) → IdxAnswer
+unfoldable pub idxAnswer : Res ListedText → IdxAnswer
 idxAnswer (refuse n) = record { refused = n; width = 0; height = 0; «has_palette» = false; palette = no-colours; cues = 0 }
-idxAnswer (ok ls) =
+idxAnswer (ok t) =
     record {
       refused = 0;
-      width = displaySize ls .width;
-      height = displaySize ls .height;
-      «has_palette» = hasPalette ls;
-      palette = paletteOf ls;
-      cues = length (cuesOf ls);
+      width = displaySize t .width;
+      height = displaySize t .height;
+      «has_palette» = hasPalette t;
+      palette = paletteOf t;
+      cues = length (cuesOf t);
     }
 
 -- the lines of a text, with buffers of these lengths
 abbrev pub linesWith : List ℤ → List ℕ → List ℕ → Res (List Said)
 linesWith starts positions text = textIn (some (min (length starts) (length positions))) text
 
+-- what is listed of it, with buffers of these lengths
+abbrev pub idxWith : List ℤ → List ℕ → List ℕ → Res ListedText
+idxWith starts positions text = idxIn (some (min (length starts) (length positions))) text
+
 -- the answer, and the front of both buffers; on a refusal both are as found
 pub record IdxRead (text : List ℕ) (starts : List ℤ) (positions : List ℕ) (r : IdxAnswer) (starts′ : List ℤ) (positions′ : List ℕ) : Type 0 where
-  pub answer : r ≡ idxAnswer (linesWith starts positions text)
-  pub stored : CuesStored (linesWith starts positions text) starts positions starts′ positions′
+  pub answer : r ≡ idxAnswer (idxWith starts positions text)
+  pub starts-are : starts′ ≡ sets starts 0 (startsOf (listedBy (idxWith starts positions text) cuesOf))
+  pub positions-are : positions′ ≡ sets positions 0 (positionsOf (listedBy (idxWith starts positions text) cuesOf))
 
 -- ---- One cue
 pub record Picked : Type 0 where
@@ -155,12 +161,12 @@ pub record Picked : Type 0 where
   pub palette : List ℕ
   pub coloured : Bool
 
--- cue n of the lines, if there is one
-unfoldable pub pickOf : Res (List Said) → ℕ → Res Picked
-pickOf lines n =
-    andThen lines
-    (λ ls. andThen (need no-cue (cueAt (cuesOf ls) n))
-    (λ c. ok (record { cue = c; duration = durationOf (cuesOf ls) n; palette = paletteOf ls; coloured = hasPalette ls })))
+-- cue n of a text, if there is one
+unfoldable pub pickOf : Res ListedText → ℕ → Res Picked
+pickOf text n =
+    andThen text
+    (λ t. andThen (need no-cue (cueAt (cuesOf t) n))
+    (λ c. ok (record { cue = c; duration = durationOf (cuesOf t) n; palette = paletteOf t; coloured = hasPalette t })))
 
 abbrev pub given : Option ℕ → Bool
 given none = false

@@ -1,14 +1,14 @@
--- The listed lines of an index text, found, or the number of the first refusal (FORMAT 1.1, 1.2, 1.11). One definition with cue buffers
--- and without. Assumes nothing: these are definitions.
+-- What is listed of an index text, found, or the number of the first refusal (FORMAT 1.1, 1.2, 1.11, 1.13).
+-- One definition with cue buffers and without. Assumes nothing: these are definitions.
 use Prim.Native.Nat.{ℕ, _+_}
 use mathlib.Core.Bool.{Bool, true}
 use mathlib.Core.Option.{Option, some, none}
 use mathlib.Core.List.{List, [], _∷_}
 use lib.Dec.{ltb}
-use Rattle.outcome.specs.Outcome.{Res, ok, check, andThen, high-byte, short-cues}
+use Rattle.outcome.specs.Outcome.{Res, ok, check, andThen, mapRes, high-byte, short-cues}
 use Rattle.grammar.specs.Parts.{Part}
 use Rattle.grammar.specs.IndexParts.{line-end}
-use Rattle.grammar.specs.Index.{Said, size, palette, timestamp}
+use Rattle.grammar.specs.Index.{Said, size, palette, timestamp, greys, ListedText, of-lines, no-bytes}
 use Rattle.idx_numbers_model.specs.Parts.{all, trim, split}
 use Rattle.idx_lines_model.specs.Lines.{lineOf}
 
@@ -49,5 +49,10 @@ lowByte b = ltb b 128
 unfoldable pub textIn : Option ℕ → List ℕ → Res (List Said)
 textIn room text = check (all lowByte text) high-byte (linesIn room 0 (split line-end 0 text))
 
-abbrev pub textOf : List ℕ → Res (List Said)
-textOf text = textIn none text
+-- what is listed of a text: where there are no bytes, a cue that no line gives and that needs a place as any other
+unfoldable pub idxIn : Option ℕ → List ℕ → Res ListedText
+idxIn room [] = check (roomAfter room 0) short-cues (ok (no-bytes greys))
+idxIn room (b ∷ s) = mapRes of-lines (textIn room (b ∷ s))
+
+abbrev pub idxOf : List ℕ → Res ListedText
+idxOf text = idxIn none text

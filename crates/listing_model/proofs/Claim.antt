@@ -9,7 +9,7 @@ use lib.ListN.{length}
 use lib.Seq.{sets}
 use Rattle.outcome.specs.Outcome.{Res, ok, refuse, IsOk, need, andThen, mapRes, no-cue}
 use Rattle.outcome.proofs.Laws.{andThen-ok, mapRes-ok, need-some}
-use Rattle.grammar.specs.Index.{Said, IsText}
+use Rattle.grammar.specs.Index.{ListedText, IsText}
 use Rattle.grammar.specs.IndexCues.{Cue, cuesOf, cueAt, durationOf}
 use Rattle.grammar.specs.Packets.{Form, unitOf, streamId}
 use Rattle.grammar.proofs.Streams.{readings-same}
@@ -30,7 +30,7 @@ use Rattle.listing_model.proofs.Laws.{written}
 
 module _ (cs : List Cue) (f : List ℕ) (n : ℕ) where
   -- what a reading shows is shown
-  module _ (text : List ℕ) (x : Reading) (e : cuesOf (x .lines) ≡ cs) (h : IsReading text f (wanted n list-stream) x) where
+  module _ (text : List ℕ) (x : Reading) (e : cuesOf (x .text) ≡ cs) (h : IsReading text f (wanted n list-stream) x) where
     cue-is : cueAt cs n ≡ some (h .at)
     cue-is = (λ i. cueAt (sym e i) (sym (h .cue-is) i)) ∙ h .listed
 
@@ -42,7 +42,7 @@ module _ (cs : List Cue) (f : List ℕ) (n : ℕ) where
     unfolding shown
     shown-is =
         let t = told (x .unit .blocks) in
-        let z : h .at .start ≡ startAt (cueAt (cuesOf (x .lines)) (x .cue)) = ap startAt (sym (h .listed)) in
+        let z : h .at .start ≡ startAt (cueAt (cuesOf (x .text)) (x .cue)) = ap startAt (sym (h .listed)) in
         λ i. record {
           start = z i;
           duration = durationOf (sym e i) (sym (h .cue-is) i);
@@ -61,16 +61,16 @@ module _ (cs : List Cue) (f : List ℕ) (n : ℕ) where
     reading-shown = rw (cue-is, unit-is) (ap ok shown-is)
 
   -- and what is shown is a reading's
-  pub shown-reading : (text : List ℕ) (ls : List Said) → IsText text ls → cuesOf ls ≡ cs → (s : Shown)
+  pub shown-reading : (text : List ℕ) (index : ListedText) → IsText text index → cuesOf index ≡ cs → (s : Shown)
       → shownFor cs f n ≡ ok s → (x : Reading) × IsReading text f (wanted n list-stream) x
   unfolding shownFor unitFor
-  shown-reading text ls t e s q =
+  shown-reading text index t e s q =
       let a = andThen-ok (need no-cue (cueAt cs n)) _ q in
       let c = a .0 in
       let b = mapRes-ok (shownAt (c .start) (durationOf cs n)) (unitFor f (c .position)) (a .2) in
       let m = andThen-ok (formAt (streamId list-stream) f (c .position)) _ (b .1) in
       let i = form-iff (streamId list-stream) f (c .position) (m .0) .0 (m .1) in (
-        record { lines = ls; cue = n; form = m .0; unit = b .0 },
+        record { text = index; cue = n; form = m .0; unit = b .0 },
         record {
           text-is = t;
           cue-is = refl;
@@ -86,24 +86,24 @@ module _ (cs : List Cue) (f : List ℕ) (n : ℕ) where
   pub claim : (l l′ : List ℕ) (r : ℕ) → Written (cueLine cs f n) l r l′ → Exactly cs f n l l′
   claim l l′ r w =
       record {
-        exactly-when = λ text ls t e. (
-          given text ls t e (shownFor cs f n) refl,
-          λ y. subst IsOk (sym (reading-shown text (y .0) (ap cuesOf (text-unique text (y .0 .lines) ls (y .1 .text-is) t) ∙ e) (y .1))) tt,
+        exactly-when = λ text index t e. (
+          given text index t e (shownFor cs f n) refl,
+          λ y. subst IsOk (sym (reading-shown text (y .0) (ap cuesOf (text-unique text (y .0 .text) index (y .1 .text-is) t) ∙ e) (y .1))) tt,
         );
         same = λ text x e h. w .stored ∙ ap (λ (s : Res Shown). sets l 0 (lineOf n s)) (reading-shown text x e h);
-        refused = λ text ls t e m. none-given text ls t e m (shownFor cs f n) refl;
+        refused = λ text index t e m. none-given text index t e m (shownFor cs f n) refl;
       }
     where
-      none-given : (text : List ℕ) (ls : List Said) → IsText text ls → cuesOf ls ≡ cs
+      none-given : (text : List ℕ) (index : ListedText) → IsText text index → cuesOf index ≡ cs
           → ((x : Reading) → IsReading text f (wanted n list-stream) x → ⊥)
           → (o : Res Shown) → shownFor cs f n ≡ o → (k : ℕ) × (l′ ≡ sets l 0 (refusedLine n k))
-      none-given text ls t e m (ok s) q = let y = shown-reading text ls t e s q in absurd (m (y .0) (y .1))
-      none-given text ls t e m (refuse k) q = (k, w .stored ∙ ap (λ (s : Res Shown). sets l 0 (lineOf n s)) q)
+      none-given text index t e m (ok s) q = let y = shown-reading text index t e s q in absurd (m (y .0) (y .1))
+      none-given text index t e m (refuse k) q = (k, w .stored ∙ ap (λ (s : Res Shown). sets l 0 (lineOf n s)) q)
 
-      given : (text : List ℕ) (ls : List Said) → IsText text ls → cuesOf ls ≡ cs → (o : Res Shown) → shownFor cs f n ≡ o
+      given : (text : List ℕ) (index : ListedText) → IsText text index → cuesOf index ≡ cs → (o : Res Shown) → shownFor cs f n ≡ o
           → IsOk o → (x : Reading) × IsReading text f (wanted n list-stream) x
-      given text ls t e (ok s) q y = shown-reading text ls t e s q
-      given text ls t e (refuse k) q y = absurd y
+      given text index t e (ok s) q y = shown-reading text index t e s q
+      given text index t e (refuse k) q y = absurd y
 
   -- what other streams carry does not count
   pub undisturbed : (l s : List ℕ) (r : ℕ) (l′ s′ : List ℕ) → Written (cueLine cs f n) l r l′
@@ -114,7 +114,7 @@ module _ (cs : List Cue) (f : List ℕ) (n : ℕ) where
       let x : shownFor cs f n ≡ shownFor cs g n = rw e (ap (λ (m : Res Form). mapRes (shownAt (c .start) (durationOf cs n)) (andThen m (λ o. unitAt (unitOf o)))) z) in
       let y : formFor cs f n ≡ formFor cs g n = rw e z in
       record {
-        readings = λ text ls i o. readings-same text (wanted n list-stream) ls c i (ap (λ (v : List Cue). cueAt v n) o ∙ e) f g ps k a;
+        readings = λ text index i o. readings-same text (wanted n list-stream) index c i (ap (λ (v : List Cue). cueAt v n) o ∙ e) f g ps k a;
         size = w .size ∙ ap (λ (o : Res Shown). length (lineOf n o)) x ∙ sym (v .size);
         line = w .stored ∙ ap (λ (o : Res Shown). sets l 0 (lineOf n o)) x ∙ sym (v .stored);
         scratch = q ∙ ap (λ (o : Res Form). sets s 0 (unitStored o)) y ∙ sym u;

@@ -10,11 +10,11 @@ use lib.IntN.{ℤ, pos, _-ℤ_}
 use lib.ListN.{length, getD, drop}
 use lib.Seq.{sets, sets-eq, length-sets}
 use borrow.Author.Tests.{le-leb, lt-leb}
-use Rattle.outcome.specs.Outcome.{Res, ok, refuse, listed, no-cue}
-use Rattle.grammar.specs.Index.{Said}
+use Rattle.outcome.specs.Outcome.{Res, ok, refuse, listedBy, no-cue}
+use Rattle.grammar.specs.Index.{ListedText}
 use Rattle.grammar.specs.IndexCues.{Cue, cuesOf, cueAt, durationOf, clip}
-use Rattle.idx_model.specs.Text.{textOf}
-use Rattle.idx_model.specs.Answers.{startsOf, positionsOf, linesWith, idxAnswer, IdxRead}
+use Rattle.idx_model.specs.Text.{idxOf}
+use Rattle.idx_model.specs.Answers.{startsOf, positionsOf, idxWith, idxAnswer, IdxRead}
 use Rattle.idx_model.specs.declared.IdxAnswer.{IdxAnswer}
 use Rattle.idx_model.proofs.Picks.{cue-out, last-duration, next-duration, text-open}
 use Rattle.idx_model.proofs.Grammar.{room-iff}
@@ -120,30 +120,35 @@ module _ (there : Bool) (text file l : List ℕ) where
 
   module _ (e : readable there text file ≡ true) (small : length text ≤ 65536) (zs : List ℤ) (ps : List ℕ) (lz : length zs ≡ 65537) (lp : length ps ≡ 65537)
       (a : IdxAnswer) (zs′ : List ℤ) (ps′ : List ℕ) (d : IdxRead text zs ps a zs′ ps′) where
-    opened : linesWith zs ps text ≡ textOf text
+    opened : idxWith zs ps text ≡ idxOf text
     opened = text-open text (min (length zs) (length ps)) (omega arith)
 
     kept-starts : length zs′ ≡ length zs
-    kept-starts = ap length (d .stored .starts-are) ∙ length-sets zs 0 (startsOf (listed (linesWith zs ps text)))
+    kept-starts = ap length (d .starts-are) ∙ length-sets zs 0 (startsOf (listedBy (idxWith zs ps text) cuesOf))
 
     kept-positions : length ps′ ≡ length ps
-    kept-positions = ap length (d .stored .positions-are) ∙ length-sets ps 0 (positionsOf (listed (linesWith zs ps text)))
+    kept-positions = ap length (d .positions-are) ∙ length-sets ps 0 (positionsOf (listedBy (idxWith zs ps text) cuesOf))
 
     -- the index is refused
     pub head-refused : (a .refused ≡ 0 → ⊥) → (r : Head) (l′ : List ℕ) → (Put 210 l 0 (indexLine (a .refused)) (r .size) l′) × (r .cues ≡ 0) → Headed there text file zs ps l r zs′ ps′ l′
-    unfolding idxAnswer tableOf cuesOf
-    head-refused h r l′ p = go (textOf text) refl (d .answer ∙ ap idxAnswer opened)
+    unfolding idxAnswer tableOf
+    head-refused h r l′ p = go (idxOf text) refl (d .answer ∙ ap idxAnswer opened)
       where
-        go : (x : Res (List Said)) → textOf text ≡ x → a ≡ idxAnswer (textOf text) → Headed there text file zs ps l r zs′ ps′ l′
-        go (ok ls) q g = absurd (h (ap (λ (b : IdxAnswer). b .refused) (g ∙ ap idxAnswer q)))
+        go : (x : Res ListedText) → idxOf text ≡ x → a ≡ idxAnswer (idxOf text) → Headed there text file zs ps l r zs′ ps′ l′
+        go (ok index) q g = absurd (h (ap (λ (b : IdxAnswer). b .refused) (g ∙ ap idxAnswer q)))
         go (refuse n) q g =
             let w : a .refused ≡ n = ap (λ (b : IdxAnswer). b .refused) (g ∙ ap idxAnswer q) in
             record {
               line = rw (e, q) (written (omega arith) (put-as (ap indexLine w) (p .0)));
               count = rw (e, q) (p .1);
               table = rw (e, q, p .1);
-              starts-are = rw (e, q) (d .stored .starts-are ∙ ap (λ (y : Res (List Said)). sets zs 0 (startsOf (listed y))) (opened ∙ q));
-              positions-are = rw (e, q) (d .stored .positions-are ∙ ap (λ (y : Res (List Said)). sets ps 0 (positionsOf (listed y))) (opened ∙ q));
+              starts-are =
+                  rw (e, q)
+                  (d .starts-are ∙ ap (λ (y : Res ListedText). sets zs 0 (startsOf (listedBy y cuesOf))) (opened ∙ q));
+              positions-are =
+                  rw (e, q)
+                  (d .positions-are
+                  ∙ ap (λ (y : Res ListedText). sets ps 0 (positionsOf (listedBy y cuesOf))) (opened ∙ q));
               starts-long = kept-starts;
               positions-long = kept-positions;
             }
@@ -151,22 +156,24 @@ module _ (there : Bool) (text file l : List ℕ) where
     -- it is accepted
     pub head-counted : a .refused ≡ 0 → (r : Head) (l′ : List ℕ) → (Put 210 l 0 (cuesLine (a .cues)) (r .size) l′) × (r .cues ≡ a .cues) → Headed there text file zs ps l r zs′ ps′ l′
     unfolding idxAnswer
-    head-counted h r l′ p = go (textOf text) refl (d .answer ∙ ap idxAnswer opened)
+    head-counted h r l′ p = go (idxOf text) refl (d .answer ∙ ap idxAnswer opened)
       where
-        go : (x : Res (List Said)) → textOf text ≡ x → a ≡ idxAnswer (textOf text) → Headed there text file zs ps l r zs′ ps′ l′
+        go : (x : Res ListedText) → idxOf text ≡ x → a ≡ idxAnswer (idxOf text) → Headed there text file zs ps l r zs′ ps′ l′
         go (refuse n) q g =
             let w : a .refused ≡ n = ap (λ (b : IdxAnswer). b .refused) (g ∙ ap idxAnswer q) in
             absurd (text-refuses none text n q (sym w ∙ h))
-        go (ok ls) q g =
-            let w : a .cues ≡ length (cuesOf ls) = ap (λ (b : IdxAnswer). b .cues) (g ∙ ap idxAnswer q) in
-            let lines : linesWith zs ps text ≡ ok ls = opened ∙ q in
-            let room = room-iff (min (length zs) (length ps)) text ls .0 lines .1 in
-            let s : zs′ ≡ sets zs 0 (startsOf ls) = d .stored .starts-are ∙ ap (λ (y : Res (List Said)). sets zs 0 (startsOf (listed y))) lines in
-            let t : ps′ ≡ sets ps 0 (positionsOf ls) = d .stored .positions-are ∙ ap (λ (y : Res (List Said)). sets ps 0 (positionsOf (listed y))) lines in
+        go (ok index) q g =
+            let w : a .cues ≡ length (cuesOf index) = ap (λ (b : IdxAnswer). b .cues) (g ∙ ap idxAnswer q) in
+            let found : idxWith zs ps text ≡ ok index = opened ∙ q in
+            let room = room-iff (min (length zs) (length ps)) text index .0 found .1 in
+            let s : zs′ ≡ sets zs 0 (startsOf (cuesOf index)) =
+            d .starts-are ∙ ap (λ (y : Res ListedText). sets zs 0 (startsOf (listedBy y cuesOf))) found in
+            let t : ps′ ≡ sets ps 0 (positionsOf (cuesOf index)) =
+            d .positions-are ∙ ap (λ (y : Res ListedText). sets ps 0 (positionsOf (listedBy y cuesOf))) found in
             record {
               line = rw (e, q) (written (omega arith) (put-as (ap cuesLine w) (p .0)));
               count = rw (e, q) (p .1 ∙ w);
-              table = rw (e, q, p .1, w, s, t) (table-stored (cuesOf ls) zs ps (omega arith) (omega arith));
+              table = rw (e, q, p .1, w, s, t) (table-stored (cuesOf index) zs ps (omega arith) (omega arith));
               starts-are = rw (e, q) s;
               positions-are = rw (e, q) t;
               starts-long = kept-starts;

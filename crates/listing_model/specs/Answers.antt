@@ -9,7 +9,7 @@ use lib.IntN.{ℤ}
 use lib.ListN.{length}
 use lib.Seq.{sets}
 use Rattle.outcome.specs.Outcome.{IsOk, mapRes}
-use Rattle.grammar.specs.Index.{Said, IsText}
+use Rattle.grammar.specs.Index.{ListedText, IsText}
 use Rattle.grammar.specs.IndexCues.{Cue, cuesOf, cueAt}
 use Rattle.grammar.specs.Packets.{Packet, streamId}
 use Rattle.grammar.specs.Streams.{Walk, Alike}
@@ -77,11 +77,11 @@ tableOf (z ∷ starts) (p ∷ positions) (suc k) = record { start = z; position 
 -- of a text with these cues: a line that is not refused exactly where there is a reading for stream 0, and then with the
 -- values of every reading; where there is none, a line that says so
 pub record Exactly (cs : List Cue) (f : List ℕ) (n : ℕ) (l l′ : List ℕ) : Type 0 where
-  pub exactly-when : (text : List ℕ) (ls : List Said) → IsText text ls → cuesOf ls ≡ cs
+  pub exactly-when : (text : List ℕ) (index : ListedText) → IsText text index → cuesOf index ≡ cs
       → IsOk (shownFor cs f n) ↔ ((x : Reading) × IsReading text f (wanted n list-stream) x)
-  pub same : (text : List ℕ) (x : Reading) → cuesOf (x .lines) ≡ cs → IsReading text f (wanted n list-stream) x
+  pub same : (text : List ℕ) (x : Reading) → cuesOf (x .text) ≡ cs → IsReading text f (wanted n list-stream) x
       → l′ ≡ sets l 0 (shownLine n (shown x))
-  pub refused : (text : List ℕ) (ls : List Said) → IsText text ls → cuesOf ls ≡ cs
+  pub refused : (text : List ℕ) (index : ListedText) → IsText text index → cuesOf index ≡ cs
       → ((x : Reading) → IsReading text f (wanted n list-stream) x → ⊥)
       → (k : ℕ) × (l′ ≡ sets l 0 (refusedLine n k))
 
@@ -90,7 +90,7 @@ pub record Exactly (cs : List Cue) (f : List ℕ) (n : ℕ) (l l′ : List ℕ) 
 -- f and g have the same readings for cue n of every text with the cues cs, and two calls leave the same line of the
 -- same length, and the same in scratch
 pub record SameLine (cs : List Cue) (f g : List ℕ) (n r t : ℕ) (l l′ s s′ : List ℕ) : Type 0 where
-  pub readings : (text : List ℕ) (ls : List Said) → IsText text ls → cuesOf ls ≡ cs
+  pub readings : (text : List ℕ) (index : ListedText) → IsText text index → cuesOf index ≡ cs
       → (x : Reading) → IsReading text f (wanted n list-stream) x ↔ IsReading text g (wanted n list-stream) x
   pub size : r ≡ t
   pub line : l ≡ l′

@@ -14,7 +14,7 @@ use Rattle.grammar.specs.Record.{told, delayOf, width, height}
 use Rattle.grammar.specs.Picture.{ListedUnit}
 use Rattle.grammar.specs.Pixels.{codesIn, clippedIn}
 use Rattle.grammar.specs.Reading.{Shown}
-use Rattle.idx_model.specs.Text.{textOf}
+use Rattle.idx_model.specs.Text.{idxOf}
 use Rattle.ps_model.specs.Packets.{formAt}
 use Rattle.spu_model.specs.Unit.{unitAt}
 use Rattle.listing_model.specs.Lines.{shownLine, refusedLine, cuesLine, indexLine, fileLine}
@@ -74,7 +74,7 @@ indexed (refuse k) = indexLine k
 
 -- the cues of a text
 abbrev pub cuesIn : List ℕ → Res (List Cue)
-cuesIn text = mapRes cuesOf (textOf text)
+cuesIn text = mapRes cuesOf (idxOf text)
 
 -- the first line of a title, and its cues, of which each has a line
 abbrev pub headLine : Bool → List ℕ → List ℕ → List ℕ

@@ -1,5 +1,5 @@
 // Runs rows through the exported functions, and writes a line for each: the function, the row's name, its answer, and
-// the memory lent for it, with `.` for what is as found: bytes of 238, words of EEEE, starts of -77, positions of 77,
+// the memory lent for it, with `.` for what is as found: bytes of 237, words of EEEE, starts of -77, positions of 77,
 // and for decode_rle_field both numbers of codes, of 77.
 // A line of standard input is a row: the function, its name, its numbers, its bytes, and for decode_cue the bytes of
 // the file, with a bar between them. The numbers are those of the call in its order, and how much memory is lent:
@@ -10,7 +10,7 @@ use idx_numbers::starts;
 use libc::STDIN_FILENO;
 use libc::STDOUT_FILENO;
 
-const FOUND: u8 = 238;
+const FOUND: u8 = 237;
 
 const FOUND_WORD: u16 = 0xEEEE;
 
@@ -122,7 +122,7 @@ fn runs(bytes: &[u8], words: &[u16], n: usize, found: usize) {
 
 fn byte_runs(label: &[u8], s: &[u8]) {
     say(label);
-    runs(s, &[], s.len(), 238);
+    runs(s, &[], s.len(), 237);
 }
 
 fn cell(v: usize, found: usize) {
@@ -204,7 +204,7 @@ fn extracted(file: &[u8], position: usize, stream: usize, scratch: &mut [u8]) {
         }
     }
     say(b"; scratch");
-    cells(scratch, &[], scratch.len(), 238);
+    cells(scratch, &[], scratch.len(), 237);
 }
 
 fn packets(file: &[u8], position: usize, stream: usize, room: usize) {
@@ -263,11 +263,24 @@ fn all_positions(positions: &[u64]) {
     }
 }
 
-// Whether there is a palette, and its colours.
+fn black(palette: &[u8; 48]) -> bool {
+    let mut i = 0;
+    while i < 48 {
+        if palette[i] > 0 {
+            return false;
+        }
+        i += 1;
+    }
+    true
+}
+
+// Whether there is a palette, and its colours, but for a black one that no line gives.
 fn colours(any: usize, palette: &[u8; 48]) {
     form(b", palette @", &[any; 17]);
     if any == 0 {
-        return;
+        if black(palette) {
+            return;
+        }
     }
     let mut i = 0;
     while i < 48 {
@@ -280,7 +293,7 @@ fn colours(any: usize, palette: &[u8; 48]) {
 }
 
 fn indexed(text: &[u8], starts: &mut [i64], positions: &mut [u64]) {
-    let mut palette: [u8; 48] = [0; 48];
+    let mut palette: [u8; 48] = [FOUND; 48];
     let mut numbers: [usize; 4] = [0; 4];
     let refusal = vobsub_c::vobsub_parse_idx(text, starts, positions, &mut palette, &mut numbers);
     if answered(refusal) {
@@ -322,7 +335,7 @@ fn lasts(set: u64, duration: u64) {
 
 fn cue(text: &[u8], n: usize) {
     let mut start: i64 = 0;
-    let mut palette: [u8; 48] = [0; 48];
+    let mut palette: [u8; 48] = [FOUND; 48];
     let mut numbers: [u64; 4] = [0; 4];
     form(b", cue @", &[n; 17]);
     let refusal = vobsub_c::vobsub_pick_cue(text, n, &mut start, &mut palette, &mut numbers);

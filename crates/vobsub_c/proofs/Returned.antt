@@ -6,7 +6,7 @@ use lib.IntN.{ℤ}
 use lib.ListN.{length}
 use Rattle.outcome.specs.Outcome.{Res, ok, refuse, refusalOf, InTable, Returned, no-unit}
 use Rattle.outcome.proofs.Numbers.{in-table, only-numbered, returned}
-use Rattle.grammar.specs.Index.{Said}
+use Rattle.grammar.specs.Index.{ListedText}
 use Rattle.grammar.specs.Picture.{ListedUnit}
 use Rattle.grammar.specs.Packets.{Form, bare, packets}
 use Rattle.grammar.specs.Reading.{Wanted, Reading}
@@ -27,8 +27,8 @@ use Rattle.spu_model.proofs.Refusals.{unit-numbered}
 use Rattle.demo_model.specs.Unit.{demoAt}
 use Rattle.demo_model.specs.Answers.{demoGiven}
 use Rattle.demo_model.proofs.Refusals.{demo-numbered}
-use Rattle.idx_model.specs.Text.{textOf}
-use Rattle.idx_model.specs.Answers.{linesWith, idxAnswer, Picked, pickOf, cueAnswer}
+use Rattle.idx_model.specs.Text.{idxOf}
+use Rattle.idx_model.specs.Answers.{idxWith, idxAnswer, Picked, pickOf, cueAnswer}
 use Rattle.idx_model.proofs.Refusals.{text-numbered, pick-numbered}
 use Rattle.vobsub_model.specs.Call.{Lent, readingIn}
 use Rattle.vobsub_model.specs.Answers.{canvasAnswer}
@@ -79,18 +79,18 @@ demo-returned w h px n r e = returned (demoAt w h px n) r (demo-numbered w h px 
     go (refuse k) = refl
 
 pub index-returned : (starts : List ℤ) (positions text : List ℕ) (r : ℕ)
-    → r ≡ idxAnswer (linesWith starts positions text) .refused → Returned (linesWith starts positions text) r
+    → r ≡ idxAnswer (idxWith starts positions text) .refused → Returned (idxWith starts positions text) r
 unfolding idxAnswer
-index-returned starts positions text r e = returned (linesWith starts positions text) r (text-numbered _ text) (e ∙ go (linesWith starts positions text))
+index-returned starts positions text r e = returned (idxWith starts positions text) r (text-numbered _ text) (e ∙ go (idxWith starts positions text))
   where
-    go : (x : Res (List Said)) → idxAnswer x .refused ≡ refusalOf x
-    go (ok ls) = refl
+    go : (x : Res ListedText) → idxAnswer x .refused ≡ refusalOf x
+    go (ok index) = refl
     go (refuse n) = refl
 
-pub cue-returned : (text : List ℕ) (n r : ℕ) → r ≡ cueAnswer (pickOf (textOf text) n) .refused
-    → Returned (pickOf (textOf text) n) r
+pub cue-returned : (text : List ℕ) (n r : ℕ) → r ≡ cueAnswer (pickOf (idxOf text) n) .refused
+    → Returned (pickOf (idxOf text) n) r
 unfolding cueAnswer
-cue-returned text n r e = returned (pickOf (textOf text) n) r (pick-numbered text n) (e ∙ go (pickOf (textOf text) n))
+cue-returned text n r e = returned (pickOf (idxOf text) n) r (pick-numbered text n) (e ∙ go (pickOf (idxOf text) n))
   where
     go : (x : Res Picked) → cueAnswer x .refused ≡ refusalOf x
     go (ok p) = refl

@@ -10,11 +10,11 @@ use lib.Dec.{eqb}
 use lib.IntN.{ℤ}
 use lib.ListN.{length, take}
 use lib.Seq.{sets}
-use Rattle.outcome.specs.Outcome.{Res, ok, refuse, listed, refusalOf, Returned}
+use Rattle.outcome.specs.Outcome.{Res, ok, refuse, listed, listedBy, refusalOf, Returned}
 use Rattle.bands_model.specs.Answers.{countOf, stored}
 use Rattle.bands_model.specs.declared.BandAnswer.{BandAnswer}
 use Rattle.bands_model.specs.declared.BandAnswer.the-variants as band-answer
-use Rattle.grammar.specs.Index.{Said, IsText}
+use Rattle.grammar.specs.Index.{ListedText, IsText}
 use Rattle.grammar.specs.IndexCues.{Cue, cuesOf, cueAt}
 use Rattle.grammar.specs.Packets.{Packet, streamId}
 use Rattle.grammar.specs.Streams.{Walk, Alike}
@@ -28,8 +28,8 @@ use Rattle.rle_model.specs.Answers.{fieldAnswer}
 use Rattle.rle_model.specs.declared.Counts.{Counts}
 use Rattle.rle_model.specs.declared.FieldAnswer.{FieldAnswer}
 use Rattle.rle_model.specs.declared.FieldAnswer.the-variants as field-answer
-use Rattle.idx_model.specs.Text.{textOf}
-use Rattle.idx_model.specs.Answers.{linesWith, idxAnswer, startsOf, positionsOf, pickOf, cueAnswer}
+use Rattle.idx_model.specs.Text.{idxOf}
+use Rattle.idx_model.specs.Answers.{idxWith, idxAnswer, startsOf, positionsOf, pickOf, cueAnswer}
 use Rattle.idx_model.specs.declared.IdxAnswer.{IdxAnswer}
 use Rattle.idx_model.specs.declared.CueAnswer.{CueAnswer}
 use Rattle.demo_model.specs.Unit.{demoAt}
@@ -171,12 +171,12 @@ abbrev pub idxPalette : IdxAnswer → List ℕ → List ℕ
 idxPalette a before = cond (eqb (a .refused) 0) (a .palette) before
 
 pub record IndexGiven (text : List ℕ) (starts : List ℤ) (positions palette numbers : List ℕ) (r : ℕ) (starts′ : List ℤ) (positions′ palette′ numbers′ : List ℕ) : Type 0 where
-  pub refusal : r ≡ idxAnswer (linesWith starts positions text) .refused
-  pub returned : Returned (linesWith starts positions text) r
-  pub told : numbers′ ≡ idxRecord (idxAnswer (linesWith starts positions text)) numbers
-  pub colours : palette′ ≡ idxPalette (idxAnswer (linesWith starts positions text)) palette
-  pub starts-are : starts′ ≡ sets starts 0 (startsOf (listed (linesWith starts positions text)))
-  pub positions-are : positions′ ≡ sets positions 0 (positionsOf (listed (linesWith starts positions text)))
+  pub refusal : r ≡ idxAnswer (idxWith starts positions text) .refused
+  pub returned : Returned (idxWith starts positions text) r
+  pub told : numbers′ ≡ idxRecord (idxAnswer (idxWith starts positions text)) numbers
+  pub colours : palette′ ≡ idxPalette (idxAnswer (idxWith starts positions text)) palette
+  pub starts-are : starts′ ≡ sets starts 0 (startsOf (listedBy (idxWith starts positions text) cuesOf))
+  pub positions-are : positions′ ≡ sets positions 0 (positionsOf (listedBy (idxWith starts positions text) cuesOf))
 
 -- and those, the start and the palette where nothing is refused, or what was there
 abbrev pub cueRecord : CueAnswer → List ℕ → List ℕ
@@ -189,11 +189,11 @@ abbrev pub cuePalette : CueAnswer → List ℕ → List ℕ
 cuePalette a before = cond (eqb (a .refused) 0) (a .palette) before
 
 pub record CueGiven (text : List ℕ) (cue : ℕ) (start : ℤ) (palette numbers : List ℕ) (r : ℕ) (start′ : ℤ) (palette′ numbers′ : List ℕ) : Type 0 where
-  pub refusal : r ≡ cueAnswer (pickOf (textOf text) cue) .refused
-  pub returned : Returned (pickOf (textOf text) cue) r
-  pub starts-at : start′ ≡ cueStart (cueAnswer (pickOf (textOf text) cue)) start
-  pub told : numbers′ ≡ cueRecord (cueAnswer (pickOf (textOf text) cue)) numbers
-  pub colours : palette′ ≡ cuePalette (cueAnswer (pickOf (textOf text) cue)) palette
+  pub refusal : r ≡ cueAnswer (pickOf (idxOf text) cue) .refused
+  pub returned : Returned (pickOf (idxOf text) cue) r
+  pub starts-at : start′ ≡ cueStart (cueAnswer (pickOf (idxOf text) cue)) start
+  pub told : numbers′ ≡ cueRecord (cueAnswer (pickOf (idxOf text) cue)) numbers
+  pub colours : palette′ ≡ cuePalette (cueAnswer (pickOf (idxOf text) cue)) palette
 
 abbrev pub canvasRefusal : CanvasAnswer → ℕ
 canvasRefusal (canvas-answer.Paints s) = 0
@@ -235,7 +235,8 @@ pub record SameDecoded (text file other : List ℕ) (q : Wanted) (r t : ℕ) (b 
 -- gives the same (FORMAT 2.11)
 abbrev pub CueUndisturbed : List ℕ → List ℕ → Wanted → Lent → ℤ → List ℕ → ℕ → Lent → ℤ → List ℕ → Type 0
 CueUndisturbed text file q b start numbers r b′ start′ numbers′ =
-    (other : List ℕ) (ls : List Said) (c : Cue) (ps : List Packet) → IsText text ls → cueAt (cuesOf ls) (q .cue) ≡ some c
+    (other : List ℕ) (index : ListedText) (c : Cue) (ps : List Packet)
+    → IsText text index → cueAt (cuesOf index) (q .cue) ≡ some c
     → Walk (wantedId q) file (c .position) [] ps → Alike (q .stream) file other ps
     → (t : ℕ) (b″ : Lent) (start″ : ℤ) (numbers″ : List ℕ) → CueDecoded text other q b start numbers t b″ start″ numbers″
     → SameDecoded text file other q r t b′ b″ start′ start″ numbers′ numbers″

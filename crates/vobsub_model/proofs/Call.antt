@@ -10,14 +10,14 @@ use lib.Seq.{sets}
 use lib.Dec.{leb}
 use borrow.Author.Tests.{ne-eqb}
 use Rattle.outcome.specs.Outcome.{Res, ok, refuse, check, mapRes, bad-stream, no-cue}
-use Rattle.grammar.specs.Index.{Said}
+use Rattle.grammar.specs.Index.{ListedText}
 use Rattle.grammar.specs.IndexCues.{Cue, cuesOf, cueAt}
 use Rattle.grammar.specs.Packets.{Form, bare, packets, unitOf, streamId, top-stream}
 use Rattle.grammar.specs.Record.{told}
 use Rattle.grammar.specs.Picture.{ListedUnit}
 use Rattle.grammar.specs.Reading.{Wanted, Reading, startAt, shown, mapOf, wordsOf, unitCanvas, canvasOf}
 use Rattle.control_model.specs.Answers.{spuOf}
-use Rattle.idx_model.specs.Text.{textOf}
+use Rattle.idx_model.specs.Text.{idxOf}
 use Rattle.idx_model.specs.Answers.{pickOf, cueAnswer}
 use Rattle.idx_model.specs.Claim.{GivesCue}
 use Rattle.idx_model.specs.declared.CueAnswer.{CueAnswer}
@@ -43,14 +43,14 @@ use Rattle.vobsub_model.specs.declared.CanvasAnswer.the-variants as canv
 use Rattle.spu_model.specs.Unit.{countsOf}
 
 -- where the cue is there, its unit is that of the stream
-found-at : (text file : List ℕ) (cue stream n : ℕ) (ls : List Said) (at : Cue) (p : ℕ) → textOf text ≡ ok ls
-    → cueAt (cuesOf ls) cue ≡ some at → p ≡ at .position
-    → foundFor text file (wanted cue stream) n ≡ mapRes (found ls) (streamUnit stream file p n)
+found-at : (text file : List ℕ) (cue stream n : ℕ) (index : ListedText) (at : Cue) (p : ℕ) → idxOf text ≡ ok index
+    → cueAt (cuesOf index) cue ≡ some at → p ≡ at .position
+    → foundFor text file (wanted cue stream) n ≡ mapRes (found index) (streamUnit stream file p n)
 unfolding foundFor streamUnit
-found-at text file cue stream n ls at p e f g = rw (e, f, g) (go (leb stream top-stream))
+found-at text file cue stream n index at p e f g = rw (e, f, g) (go (leb stream top-stream))
   where
     go : (t : Bool)
-        → check t bad-stream (mapRes (found ls) (unitAt (streamId stream) file (at .position) n)) ≡ mapRes (found ls) (check t bad-stream (unitAt (streamId stream) file (at .position) n))
+        → check t bad-stream (mapRes (found index) (unitAt (streamId stream) file (at .position) n)) ≡ mapRes (found index) (check t bad-stream (unitAt (streamId stream) file (at .position) n))
     go true = refl
     go false = refl
 
@@ -64,35 +64,35 @@ module _ (text file : List ℕ) (cue stream : ℕ) (s px ws cv : List ℕ) where
   unfolding readingIn
   refused-all n e = record { answer = rw e; in-scratch = rw e; in-pixels = rw e; in-words = rw e; in-canvas = rw e }
 
-  module _ (c : CueAnswer) (e : c ≡ cueAnswer (pickOf (textOf text) cue)) where
+  module _ (c : CueAnswer) (e : c ≡ cueAnswer (pickOf (idxOf text) cue)) where
     -- the text is refused, or the cue is not there
     refused-first : (c .refused ≡ 0 → ⊥)
         → CuePainted text file (wanted cue stream) before (canvas-answer.Refused (firstRefusal (c .refused) stream)) before
     unfolding pickOf cueAnswer foundFor
-    refused-first h = go (textOf text) refl
+    refused-first h = go (idxOf text) refl
       where
         -- by whether there is such a stream
-        with-stream : (ls : List Said) → textOf text ≡ ok ls → cueAt (cuesOf ls) cue ≡ none → (t : Bool)
+        with-stream : (index : ListedText) → idxOf text ≡ ok index → cueAt (cuesOf index) cue ≡ none → (t : Bool)
             → leb stream top-stream ≡ t
             → CuePainted text file (wanted cue stream) before (canvas-answer.Refused (cond t no-cue bad-stream)) before
-        with-stream ls q f true u = refused-all no-cue (rw (q, u, f))
-        with-stream ls q f false u = refused-all bad-stream (rw (q, u))
+        with-stream index q f true u = refused-all no-cue (rw (q, u, f))
+        with-stream index q f false u = refused-all bad-stream (rw (q, u))
 
-        with-cue : (ls : List Said) → textOf text ≡ ok ls → (o : Option Cue) → cueAt (cuesOf ls) cue ≡ o
+        with-cue : (index : ListedText) → idxOf text ≡ ok index → (o : Option Cue) → cueAt (cuesOf index) cue ≡ o
             → CuePainted text file (wanted cue stream) before (canvas-answer.Refused (firstRefusal (c .refused) stream)) before
-        with-cue ls q (some a) f = absurd (h (picked text cue c e ls q a f .0))
-        with-cue ls q none f =
-            let p : pickOf (textOf text) cue ≡ refuse no-cue = rw (q, f) in
+        with-cue index q (some a) f = absurd (h (picked text cue c e index q a f .0))
+        with-cue index q none f =
+            let p : pickOf (idxOf text) cue ≡ refuse no-cue = rw (q, f) in
             let z : c .refused ≡ no-cue = ap (λ (a : CueAnswer). a .refused) (e ∙ ap cueAnswer p) in
-            rw z (with-stream ls q f (leb stream top-stream) refl)
+            rw z (with-stream index q f (leb stream top-stream) refl)
 
-        go : (r : Res (List Said)) → textOf text ≡ r
+        go : (r : Res ListedText) → idxOf text ≡ r
             → CuePainted text file (wanted cue stream) before (canvas-answer.Refused (firstRefusal (c .refused) stream)) before
         go (refuse n) q =
-            let p : pickOf (textOf text) cue ≡ refuse n = rw q in
+            let p : pickOf (idxOf text) cue ≡ refuse n = rw q in
             let z : c .refused ≡ n = ap (λ (a : CueAnswer). a .refused) (e ∙ ap cueAnswer p) in
             rw (z, ne-eqb n no-cue (text-not-11 none text n q)) (refused-all n (rw q))
-        go (ok ls) q = with-cue ls q (cueAt (cuesOf ls) cue) refl
+        go (ok index) q = with-cue index q (cueAt (cuesOf index) cue) refl
 
     pub cue-refused : (c .refused ≡ 0 → ⊥) → (n : ℕ) → n ≡ firstRefusal (c .refused) stream
         → CuePainted text file (wanted cue stream) before (canvas-answer.Refused n) before
@@ -100,23 +100,23 @@ module _ (text file : List ℕ) (cue stream : ℕ) (s px ws cv : List ℕ) where
 
     -- the cue is there
     module _ (h : c .refused ≡ 0) where
-      abbrev ls : List Said
-      ls = has text cue c e (textOf text) refl h .0
+      abbrev index : ListedText
+      index = has text cue c e (idxOf text) refl h .0
 
-      lines-are : textOf text ≡ ok ls
-      lines-are = has text cue c e (textOf text) refl h .1
+      text-listed : idxOf text ≡ ok index
+      text-listed = has text cue c e (idxOf text) refl h .1
 
       abbrev at : Cue
-      at = cue-in (cuesOf ls) cue (has text cue c e (textOf text) refl h .2) .0
+      at = cue-in (cuesOf index) cue (has text cue c e (idxOf text) refl h .2) .0
 
-      cue-is : cueAt (cuesOf ls) cue ≡ some at
-      cue-is = cue-in (cuesOf ls) cue (has text cue c e (textOf text) refl h .2) .1
+      cue-is : cueAt (cuesOf index) cue ≡ some at
+      cue-is = cue-in (cuesOf index) cue (has text cue c e (idxOf text) refl h .2) .1
 
-      gives : GivesCue ls cue at c
-      gives = picked text cue c e ls lines-are at cue-is .1
+      gives : GivesCue index cue at c
+      gives = picked text cue c e index text-listed at cue-is .1
 
-      found-is : foundFor text file (wanted cue stream) (length s) ≡ mapRes (found ls) (streamUnit stream file (c .position) (length s))
-      found-is = found-at text file cue stream (length s) ls at (c .position) lines-are cue-is (gives .position)
+      found-is : foundFor text file (wanted cue stream) (length s) ≡ mapRes (found index) (streamUnit stream file (c .position) (length s))
+      found-is = found-at text file cue stream (length s) index at (c .position) text-listed cue-is (gives .position)
 
       -- and its unit is not found
       pub unit-none : (r : UnitAnswer) (n : ℕ) (s′ : List ℕ) → Extracted file (c .position) stream s r s′
@@ -132,14 +132,14 @@ module _ (text file : List ℕ) (cue stream : ℕ) (s px ws cv : List ℕ) where
           go (refuse m) f g k =
               let z : n ≡ m = cc in
               subst (λ (l : List ℕ). CuePainted text file (wanted cue stream) before (canvas-answer.Refused n) (lent l px ws cv)) (sym k)
-              (refused-all n (found-is ∙ ap (mapRes (found ls)) f ∙ ap refuse (sym z)))
+              (refused-all n (found-is ∙ ap (mapRes (found index)) f ∙ ap refuse (sym z)))
 
       -- what is shown is what the reading shows
       shown-is : (m : Form) (l : ListedUnit)
-          → shownOf c (spuOf (told (l .blocks)) (countsOf l)) ≡ shownGiven (shown (reading (wanted cue stream) (found ls m) l))
+          → shownOf c (spuOf (told (l .blocks)) (countsOf l)) ≡ shownGiven (shown (reading (wanted cue stream) (found index m) l))
       unfolding shownGiven shown spuOf
       shown-is m l =
-          let z : c .start ≡ startAt (cueAt (cuesOf ls) cue) = gives .start ∙ ap startAt (sym cue-is) in
+          let z : c .start ≡ startAt (cueAt (cuesOf index) cue) = gives .start ∙ ap startAt (sym cue-is) in
           let t : Shown = shownOf c (spuOf (told (l .blocks)) (countsOf l)) in
           λ i. record {
             start = z i;
@@ -156,9 +156,9 @@ module _ (text file : List ℕ) (cue stream : ℕ) (s px ws cv : List ℕ) where
           }
 
       module _ (m : Form) (f : streamUnit stream file (c .position) (length s) ≡ ok m) where
-        reads : readingIn text file (wanted cue stream) before ≡ mapRes (reading (wanted cue stream) (found ls m)) (canvasIn (unitOf m) (length px) (length ws) (length cv))
+        reads : readingIn text file (wanted cue stream) before ≡ mapRes (reading (wanted cue stream) (found index m)) (canvasIn (unitOf m) (length px) (length ws) (length cv))
         unfolding readingIn
-        reads = rw (found-is ∙ ap (mapRes (found ls)) f)
+        reads = rw (found-is ∙ ap (mapRes (found index)) f)
 
         painted-all : (a : CanvasAnswer) (s′ px′ ws′ cv′ : List ℕ) → s′ ≡ sets s 0 (formStored m)
             → FoundPainted (unitOf m) c px ws cv a px′ ws′ cv′
@@ -167,27 +167,27 @@ module _ (text file : List ℕ) (cue stream : ℕ) (s px ws cv : List ℕ) where
         painted-all a s′ px′ ws′ cv′ k d =
             record {
               answer = d .answer ∙ ap (paintsOf c) (d .painted .answer) ∙ answers (canvasIn (unitOf m) (length px) (length ws) (length cv)) ∙ ap canvasAnswer (sym reads);
-              in-scratch = k ∙ ap (λ (x : Res Found). sets s 0 (scratchOf x)) (sym (found-is ∙ ap (mapRes (found ls)) f));
+              in-scratch = k ∙ ap (λ (x : Res Found). sets s 0 (scratchOf x)) (sym (found-is ∙ ap (mapRes (found index)) f));
               in-pixels = d .painted .pixels ∙ ap (sets px 0) (maps (canvasIn (unitOf m) (length px) (length ws) (length cv))) ∙ ap (λ (x : Res Reading). sets px 0 (pixelsOf x)) (sym reads);
               in-words = d .painted .words ∙ ap (sets ws 0) (bands (canvasIn (unitOf m) (length px) (length ws) (length cv))) ∙ ap (λ (x : Res Reading). sets ws 0 (bandsOf x)) (sym reads);
               in-canvas = d .painted .canvas ∙ ap (sets cv 0) (canvases (canvasIn (unitOf m) (length px) (length ws) (length cv))) ∙ ap (λ (x : Res Reading). sets cv 0 (paintedOf x)) (sym reads);
             }
           where
             answers : (x : Res ListedUnit)
-                → paintsOf c (spuAnswer x) ≡ canvasAnswer (mapRes (reading (wanted cue stream) (found ls m)) x)
+                → paintsOf c (spuAnswer x) ≡ canvasAnswer (mapRes (reading (wanted cue stream) (found index m)) x)
             answers (ok l) = ap canvas-answer.Paints (shown-is m l)
             answers (refuse n) = refl
 
-            maps : (x : Res ListedUnit) → unitMap x ≡ pixelsOf (mapRes (reading (wanted cue stream) (found ls m)) x)
+            maps : (x : Res ListedUnit) → unitMap x ≡ pixelsOf (mapRes (reading (wanted cue stream) (found index m)) x)
             maps (ok l) = refl
             maps (refuse n) = refl
 
-            bands : (x : Res ListedUnit) → unitBands x ≡ bandsOf (mapRes (reading (wanted cue stream) (found ls m)) x)
+            bands : (x : Res ListedUnit) → unitBands x ≡ bandsOf (mapRes (reading (wanted cue stream) (found index m)) x)
             bands (ok l) = refl
             bands (refuse n) = refl
 
             canvases : (x : Res ListedUnit)
-                → canvasStored (c .palette) x ≡ paintedOf (mapRes (reading (wanted cue stream) (found ls m)) x)
+                → canvasStored (c .palette) x ≡ paintedOf (mapRes (reading (wanted cue stream) (found index m)) x)
             canvases (ok l) = ap (λ (p : List ℕ). unitCanvas p l) (gives .palette)
             canvases (refuse n) = refl
 

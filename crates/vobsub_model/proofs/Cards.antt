@@ -8,7 +8,7 @@ use Rattle.outcome.specs.Lists.{listFuel, listFrom}
 use Rattle.grammar.specs.Bytes.{word, nibble, nibbles}
 use Rattle.grammar.specs.IndexNumbers.{numeral}
 use Rattle.grammar.specs.Index.{startOf}
-use Rattle.grammar.specs.IndexCues.{cuesOf, cueAt, paletteOf}
+use Rattle.grammar.specs.IndexCues.{cuesOfLines, cueAt, paletteOf}
 use Rattle.grammar.specs.Packets.{unitOf}
 use Rattle.grammar.specs.Rows.{paints, afterCodes, align}
 use Rattle.grammar.specs.Control.{area, Block}
@@ -20,7 +20,7 @@ use Rattle.grammar.proofs.Readings as readings
 use Rattle.idx_numbers_model.specs.Parts.{strip, trim, front, rest, shorn, split, all}
 use Rattle.idx_numbers_model.specs.Numbers.{unsigned, signed, bare}
 use Rattle.idx_lines_model.specs.Lines.{lineOf, partsAt, firstOf, lastOf, fields, steps}
-use Rattle.idx_model.specs.Text.{linesIn, textIn}
+use Rattle.idx_model.specs.Text.{linesIn, textIn, idxIn}
 use Rattle.idx_model.specs.Answers.{cueAnswer}
 use Rattle.ps_model.specs.Packets.{isBare, formAt}
 use Rattle.ps_model.specs.Unit.{unitAt}
@@ -35,14 +35,20 @@ use Rattle.vobsub_model.specs.Answers.{canvasStored, shownOf, shownGiven
 
 -- `timestamp:0,filepos:0` and the unit `00 04 00 04`, with a map of one pixel and its canvas, are not refused
 pub least-title : refusalOf (readingIn (116 ∷ 105 ∷ 109 ∷ 101 ∷ 115 ∷ 116 ∷ 97 ∷ 109 ∷ 112 ∷ 58 ∷ 48 ∷ 44 ∷ 102 ∷ 105 ∷ 108 ∷ 101 ∷ 112 ∷ 111 ∷ 115 ∷ 58 ∷ 48 ∷ []) (0x00 ∷ 0x04 ∷ 0x00 ∷ 0x04 ∷ []) (wanted 0 0) (lent [] (9 ∷ []) [] (9 ∷ 9 ∷ 9 ∷ 9 ∷ []))) ≡ 0
-unfolding readingIn foundFor canvasIn textIn linesIn lineOf strip trim front rest shorn split partsAt firstOf lastOf fields steps unsigned signed bare all numeral startOf cuesOf cueAt unitAt formAt isBare unitOf word bandWords rowsAt fieldsAt lowerAt fieldAt rowAt codeAt codeFrom rowsFrom weave paints afterCodes align topEnd listFrom listFuel nibbles nibble plainAt changeAt orderAt commandAt commandsAt blockAt blocksAt headFits chainAt controlAt told commandsOf commandsIn firstDelay lastDelay lastNumbers stands allBands
+unfolding readingIn foundFor canvasIn idxIn textIn linesIn lineOf strip trim front rest shorn split partsAt firstOf lastOf fields steps unsigned signed bare all numeral startOf cuesOfLines cueAt unitAt formAt isBare unitOf word bandWords rowsAt fieldsAt lowerAt fieldAt rowAt codeAt codeFrom rowsFrom weave paints afterCodes align topEnd listFrom listFuel nibbles nibble plainAt changeAt orderAt commandAt commandsAt blockAt blocksAt headFits chainAt controlAt told commandsOf commandsIn firstDelay lastDelay lastNumbers stands allBands
 least-title = refl
 
 -- the canvas of the 2 by 2 title, from its reading and from its unit
 pub small-painted : paintedOf (ok readings.small) ≡ 0 ∷ 0 ∷ 0 ∷ 255 ∷ 0 ∷ 0 ∷ 0 ∷ 255 ∷ 0 ∷ 0 ∷ 0 ∷ 255 ∷ 0 ∷ 0 ∷ 0 ∷ 255 ∷ []
 small-painted = readings.small-canvas
 
-pub unit-painted : canvasStored (paletteOf (readings.small .lines)) (ok (readings.small .unit)) ≡ 0 ∷ 0 ∷ 0 ∷ 255 ∷ 0 ∷ 0 ∷ 0 ∷ 255 ∷ 0 ∷ 0 ∷ 0 ∷ 255 ∷ 0 ∷ 0 ∷ 0 ∷ 255 ∷ []
+-- and of its file with an index of no bytes
+pub alone-painted :
+    paintedOf (ok readings.alone)
+    ≡ 17 ∷ 17 ∷ 17 ∷ 255 ∷ 17 ∷ 17 ∷ 17 ∷ 255 ∷ 51 ∷ 51 ∷ 51 ∷ 255 ∷ 34 ∷ 34 ∷ 34 ∷ 255 ∷ []
+alone-painted = readings.alone-canvas
+
+pub unit-painted : canvasStored (paletteOf (readings.small .text)) (ok (readings.small .unit)) ≡ 0 ∷ 0 ∷ 0 ∷ 255 ∷ 0 ∷ 0 ∷ 0 ∷ 255 ∷ 0 ∷ 0 ∷ 0 ∷ 255 ∷ 0 ∷ 0 ∷ 0 ∷ 255 ∷ []
 unfolding canvasOf
 unit-painted = readings.small-canvas
 

@@ -12,7 +12,7 @@ use borrow.Author.Tests.{leb-true, le-leb}
 use Rattle.outcome.specs.Outcome.{Res, ok, refuse, need, bad-stream, no-cue, short-pixels, short-words, short-canvas}
 use Rattle.grammar.proofs.Lengths.{reading-map, reading-canvas}
 use Rattle.outcome.proofs.Laws.{andThen-ok, check-ok, mapRes-ok, need-some}
-use Rattle.grammar.specs.Index.{Said}
+use Rattle.grammar.specs.Index.{ListedText}
 use Rattle.grammar.specs.IndexCues.{Cue, cuesOf, cueAt}
 use Rattle.grammar.specs.Packets.{Form, IsForm, unitOf, top-stream}
 use Rattle.grammar.specs.Bands.{bandWords}
@@ -21,7 +21,7 @@ use Rattle.grammar.specs.Picture.{ListedUnit, IsUnit}
 use Rattle.grammar.specs.Pixels.{clippedIn}
 use Rattle.grammar.specs.Reading.{Wanted, wantedId, Reading, IsReading, toldBy, shown, wordsOf}
 use Rattle.control_model.specs.Chain.{controlAt}
-use Rattle.idx_model.specs.Text.{textOf}
+use Rattle.idx_model.specs.Text.{idxOf}
 use Rattle.idx_model.proofs.Grammar.{text-iff, text-unique}
 use Rattle.ps_model.specs.Unit.{unitAt}
 use Rattle.ps_model.specs.Answers.{formStored}
@@ -70,26 +70,26 @@ canvas-complete u n m k l e h i j =
 
 -- the lines, the cue and the unit's form
 record Founded (text file : List ℕ) (q : Wanted) (n : ℕ) (f : Found) : Type 0 where
-  lines-are : textOf text ≡ ok (f .lines)
+  text-listed : idxOf text ≡ ok (f .text)
   stream-is : q .stream ≤ top-stream
   at : Cue
-  cue-is : cueAt (cuesOf (f .lines)) (q .cue) ≡ some at
+  cue-is : cueAt (cuesOf (f .text)) (q .cue) ≡ some at
   form-is : unitAt (wantedId q) file (at .position) n ≡ ok (f .form)
 
 found-sound : (text file : List ℕ) (q : Wanted) (n : ℕ) (f : Found) → foundFor text file q n ≡ ok f → Founded text file q n f
 unfolding foundFor
 found-sound text file q n f e =
-    let a = andThen-ok (textOf text) _ e in
+    let a = andThen-ok (idxOf text) _ e in
     let s = check-ok (leb (q .stream) top-stream) bad-stream _ (a .2) in
     let b = andThen-ok (need no-cue (cueAt (cuesOf (a .0)) (q .cue))) _ (s .1) in
     let c = mapRes-ok (found (a .0)) (unitAt (wantedId q) file (b .0 .position) n) (b .2) in
-    let l : a .0 ≡ f .lines = ap (λ (x : Found). x .lines) (c .2) in
+    let l : a .0 ≡ f .text = ap (λ (x : Found). x .text) (c .2) in
     let m : c .0 ≡ f .form = ap (λ (x : Found). x .form) (c .2) in
     record {
-      lines-are = a .1 ∙ ap ok l;
+      text-listed = a .1 ∙ ap ok l;
       stream-is = leb-true _ _ (s .0);
       at = b .0;
-      cue-is = ap (λ (x : List Said). cueAt (cuesOf x) (q .cue)) (sym l) ∙ need-some no-cue (cueAt (cuesOf (a .0)) (q .cue)) (b .1);
+      cue-is = ap (λ (x : ListedText). cueAt (cuesOf x) (q .cue)) (sym l) ∙ need-some no-cue (cueAt (cuesOf (a .0)) (q .cue)) (b .1);
       form-is = c .1 ∙ ap ok m;
     }
 
@@ -107,7 +107,7 @@ module _ (text file : List ℕ) (q : Wanted) where
       let c = canvas-sound (unitOf (f .form)) (length (b .pixels)) (length (b .words)) (length (b .canvas)) (w .0) (w .1) in
       subst (λ (y : Reading). IsReading text file q y × Room y b) (w .2) (
         record {
-          text-is = text-iff text (f .lines) .0 (g .lines-are);
+          text-is = text-iff text (f .text) .0 (g .text-listed);
           cue-is = refl;
           stream-is = g .stream-is;
           at = g .at;
@@ -123,11 +123,11 @@ module _ (text file : List ℕ) (q : Wanted) where
   complete : (b : Lent) (x : Reading) → IsReading text file q x → Room x b → readingIn text file q b ≡ ok x
   unfolding readingIn foundFor wordsOf
   complete b x h r =
-      let t = text-iff text (x .lines) .1 (h .text-is) in
-      let k : cueAt (cuesOf (x .lines)) (q .cue) ≡ some (h .at) = ap (cueAt (cuesOf (x .lines))) (sym (h .cue-is)) ∙ h .listed in
+      let t = text-iff text (x .text) .1 (h .text-is) in
+      let k : cueAt (cuesOf (x .text)) (q .cue) ≡ some (h .at) = ap (cueAt (cuesOf (x .text))) (sym (h .cue-is)) ∙ h .listed in
       let m = unit-complete (wantedId q) file (h .at .position) (length (b .scratch)) (x .form) (form-iff (wantedId q) file (h .at .position) (x .form) .1 (h .before-end, h .form-is)) (r .for-unit) in
       let c = canvas-complete (unitOf (x .form)) (length (b .pixels)) (length (b .words)) (length (b .canvas)) (x .unit) (unit-iff (unitOf (x .form)) (x .unit) .1 (h .unit-is)) (r .for-map) (r .for-bands) (r .for-canvas) in
-      rw (t, le-leb (q .stream) top-stream (h .stream-is), k, m, c) (λ i. ok (record { lines = x .lines; cue = sym (h .cue-is) i; form = x .form; unit = x .unit }))
+      rw (t, le-leb (q .stream) top-stream (h .stream-is), k, m, c) (λ i. ok (record { text = x .text; cue = sym (h .cue-is) i; form = x .form; unit = x .unit }))
 
   pub reading-iff : (b : Lent) (x : Reading) → (readingIn text file q b ≡ ok x) ↔ (IsReading text file q x × Room x b)
   reading-iff b x = (sound b x, λ h. complete b x (h .0) (h .1))
@@ -135,13 +135,13 @@ module _ (text file : List ℕ) (q : Wanted) where
   -- no files have two readings for one cue and stream
   pub no-two : (x y : Reading) → IsReading text file q x → IsReading text file q y → x ≡ y
   no-two x y h k =
-      let l : x .lines ≡ y .lines = text-unique text (x .lines) (y .lines) (h .text-is) (k .text-is) in
+      let l : x .text ≡ y .text = text-unique text (x .text) (y .text) (h .text-is) (k .text-is) in
       let c : x .cue ≡ y .cue = h .cue-is ∙ sym (k .cue-is) in
       let s : some (h .at) ≡ some (k .at) = sym (h .listed) ∙ (λ i. cueAt (cuesOf (l i)) (c i)) ∙ k .listed in
       let a : h .at ≡ k .at = cc s in
       let m : x .form ≡ y .form = form-unique (wantedId q) file (k .at .position) (x .form) (y .form) (k .before-end) (subst (λ (z : Cue). IsForm (wantedId q) file (z .position) (x .form)) a (h .form-is)) (k .form-is) in
       let u : x .unit ≡ y .unit = unit-unique (unitOf (y .form)) (x .unit) (y .unit) (subst (λ (z : Form). IsUnit (unitOf z) (x .unit)) m (h .unit-is)) (k .unit-is) in
-      λ i. record { lines = l i; cue = c i; form = m i; unit = u i }
+      λ i. record { text = l i; cue = c i; form = m i; unit = u i }
 
   module _ (b : Lent) (r : CanvasAnswer) (b′ : Lent) (d : CuePainted text file q b r b′) where
     -- a canvas is a reading's

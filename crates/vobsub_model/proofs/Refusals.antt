@@ -9,10 +9,10 @@ use Rattle.outcome.specs.Outcome.{InTable, Numbered, need, bad-stream, no-cue, 
 use Rattle.outcome.proofs.Numbers.{in-table, check-numbered, need-numbered, andThen-numbered, mapRes-numbered}
 use Rattle.grammar.specs.Bands.{bandWords, entryWords}
 use Rattle.grammar.specs.Record.{told, width, height, commandsOf, commandsIn, firstDelay, lastDelay, lastNumbers, stands, allBands}
-use Rattle.grammar.specs.IndexCues.{cuesOf, cueAt}
+use Rattle.grammar.specs.IndexCues.{cuesOfLines, cuesOf, cueAt}
 use Rattle.grammar.specs.Packets.{unitOf, joined, top-stream}
 use Rattle.grammar.specs.Reading.{Wanted, wantedId, wanted}
-use Rattle.idx_model.specs.Text.{textOf, linesIn, textIn}
+use Rattle.idx_model.specs.Text.{idxOf, linesIn, textIn, idxIn}
 use Rattle.idx_model.proofs.Refusals.{text-numbered}
 use Rattle.ps_model.specs.Unit.{unitAt}
 use Rattle.ps_model.proofs.Refusals as ps
@@ -36,10 +36,10 @@ use Rattle.control_model.specs.Listed.{held, bandsAt}
 found-numbered : (text file : List ℕ) (q : Wanted) (n : ℕ) → Numbered (foundFor text file q n)
 unfolding foundFor
 found-numbered text file q n =
-    andThen-numbered InTable (textOf text) _ (text-numbered none text)
-    (λ ls. check-numbered InTable (leb (q .stream) top-stream) bad-stream _ (in-table bad-stream refl)
-    (andThen-numbered InTable (need no-cue (cueAt (cuesOf ls) (q .cue))) _ (need-numbered InTable no-cue (cueAt (cuesOf ls) (q .cue)) (in-table no-cue refl))
-    (λ c. mapRes-numbered InTable (found ls) (unitAt (wantedId q) file (c .position) n) (ps.unit-numbered (wantedId q) file (c .position) n))))
+    andThen-numbered InTable (idxOf text) _ (text-numbered none text)
+    (λ index. check-numbered InTable (leb (q .stream) top-stream) bad-stream _ (in-table bad-stream refl)
+    (andThen-numbered InTable (need no-cue (cueAt (cuesOf index) (q .cue))) _ (need-numbered InTable no-cue (cueAt (cuesOf index) (q .cue)) (in-table no-cue refl))
+    (λ c. mapRes-numbered InTable (found index) (unitAt (wantedId q) file (c .position) n) (ps.unit-numbered (wantedId q) file (c .position) n))))
 
 canvas-numbered : (u : List ℕ) (n m k : ℕ) → Numbered (canvasIn u n m k)
 unfolding canvasIn
@@ -63,18 +63,22 @@ pub orders :
     (foundFor (116 ∷ 105 ∷ 109 ∷ 101 ∷ 115 ∷ 116 ∷ 97 ∷ 109 ∷ 112 ∷ 58 ∷ 48 ∷ 44 ∷ 102 ∷ 105 ∷ 108 ∷ 101 ∷ 112 ∷ 111 ∷ 115 ∷ 58 ∷ []) [] (wanted 0 32) 0 ≡ refuse bad-position)
     -- and in a later line: `timestamp:0,filepos:0`, `timestamp:0,filepos:`
     × (foundFor (116 ∷ 105 ∷ 109 ∷ 101 ∷ 115 ∷ 116 ∷ 97 ∷ 109 ∷ 112 ∷ 58 ∷ 48 ∷ 44 ∷ 102 ∷ 105 ∷ 108 ∷ 101 ∷ 112 ∷ 111 ∷ 115 ∷ 58 ∷ 48 ∷ 10 ∷ 116 ∷ 105 ∷ 109 ∷ 101 ∷ 115 ∷ 116 ∷ 97 ∷ 109 ∷ 112 ∷ 58 ∷ 48 ∷ 44 ∷ 102 ∷ 105 ∷ 108 ∷ 101 ∷ 112 ∷ 111 ∷ 115 ∷ 58 ∷ []) [] (wanted 0 32) 0 ≡ refuse bad-position)
-    -- 32, and 11: no cue
-    × (foundFor [] [] (wanted 0 32) 0 ≡ refuse bad-stream)
+    -- 32, and 11: a blank, so no cue
+    × (foundFor (32 ∷ []) [] (wanted 0 32) 0 ≡ refuse bad-stream)
+    -- and no bytes, cue 1
+    × (foundFor [] [] (wanted 1 32) 0 ≡ refuse bad-stream)
     -- 32, and 12: `timestamp:0,filepos:0`, and no file
     × (foundFor (116 ∷ 105 ∷ 109 ∷ 101 ∷ 115 ∷ 116 ∷ 97 ∷ 109 ∷ 112 ∷ 58 ∷ 48 ∷ 44 ∷ 102 ∷ 105 ∷ 108 ∷ 101 ∷ 112 ∷ 111 ∷ 115 ∷ 58 ∷ 48 ∷ []) [] (wanted 0 32) 0 ≡ refuse bad-stream)
-    -- 11, and 12: no cue, and no file
-    × (foundFor [] [] (wanted 0 0) 0 ≡ refuse no-cue)
+    -- 11, and 12: a blank, so no cue, and no file
+    × (foundFor (32 ∷ []) [] (wanted 0 0) 0 ≡ refuse no-cue)
+    -- and no bytes, cue 1
+    × (foundFor [] [] (wanted 1 0) 0 ≡ refuse no-cue)
     -- 9, and 11: `timestamp:0,filepos:`, and cue 7
     × (foundFor (116 ∷ 105 ∷ 109 ∷ 101 ∷ 115 ∷ 116 ∷ 97 ∷ 109 ∷ 112 ∷ 58 ∷ 48 ∷ 44 ∷ 102 ∷ 105 ∷ 108 ∷ 101 ∷ 112 ∷ 111 ∷ 115 ∷ 58 ∷ []) [] (wanted 7 0) 0 ≡ refuse bad-position)
     -- 14, and 15: a packet that keeps a unit of 3 bytes, and 2 bytes of scratch
     × (foundFor (116 ∷ 105 ∷ 109 ∷ 101 ∷ 115 ∷ 116 ∷ 97 ∷ 109 ∷ 112 ∷ 58 ∷ 48 ∷ 44 ∷ 102 ∷ 105 ∷ 108 ∷ 101 ∷ 112 ∷ 111 ∷ 115 ∷ 58 ∷ 48 ∷ []) (0x00 ∷ 0x00 ∷ 0x01 ∷ 0xBD ∷ 0x00 ∷ 0x07 ∷ 0x80 ∷ 0x00 ∷ 0x00 ∷ 0x20 ∷ 0x00 ∷ 0x03 ∷ 0x00 ∷ []) (wanted 0 0) 2 ≡ refuse short-scratch)
-unfolding foundFor unitAt formAt isBare packetsAt packetAt kindAt privateAt packAt keptAt bodyAt headerAt header1At leading listFrom listFuel word joined unitOf textIn linesIn lineOf tokens strip trim front rest shorn split partsAt firstOf lastOf fields steps unsigned signed bare all numeral startOf cuesOf cueAt
-orders = (refl, refl, refl, refl, refl, refl, refl)
+unfolding foundFor unitAt formAt isBare packetsAt packetAt kindAt privateAt packAt keptAt bodyAt headerAt header1At leading listFrom listFuel word joined unitOf idxIn textIn linesIn lineOf tokens strip trim front rest shorn split partsAt firstOf lastOf fields steps unsigned signed bare all numeral startOf cuesOfLines cueAt
+orders = (refl, refl, refl, refl, refl, refl, refl, refl, refl)
 
 -- a unit with one byte of field and one block, of these bytes after its head
 abbrev unit : List ℕ → List ℕ

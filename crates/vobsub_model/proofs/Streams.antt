@@ -8,7 +8,7 @@ use lib.ListN.{length}
 use lib.Seq.{sets}
 use lib.Dec.{leb}
 use Rattle.outcome.specs.Outcome.{Res, check, andThen, mapRes, bad-stream}
-use Rattle.grammar.specs.Index.{Said, IsText}
+use Rattle.grammar.specs.Index.{ListedText, IsText}
 use Rattle.grammar.specs.IndexCues.{Cue, cuesOf, cueAt}
 use Rattle.grammar.specs.Packets.{Packet, Form, unitOf, top-stream}
 use Rattle.grammar.specs.Streams.{Walk, Alike}
@@ -22,14 +22,14 @@ use Rattle.vobsub_model.specs.Answers.{canvasAnswer, scratchOf, pixelsOf
 use Rattle.vobsub_model.specs.Claim.{Undisturbed}
 use Rattle.vobsub_model.specs.declared.CanvasAnswer.{CanvasAnswer}
 
-module _ (text file other : List ℕ) (q : Wanted) (ls : List Said) (c : Cue) (ps : List Packet)
-    (lines : IsText text ls) (cue : cueAt (cuesOf ls) (q .cue) ≡ some c)
+module _ (text file other : List ℕ) (q : Wanted) (index : ListedText) (c : Cue) (ps : List Packet)
+    (lines : IsText text index) (cue : cueAt (cuesOf index) (q .cue) ≡ some c)
     (walk : Walk (wantedId q) file (c .position) [] ps) (alike : Alike (q .stream) file other ps) where
   pub found-same : (n : ℕ) → foundFor text file q n ≡ foundFor text other q n
   unfolding foundFor unitAt
   found-same n =
-      rw (text-iff text ls .1 lines, cue)
-      (ap (λ (m : Res Form). check (leb (q .stream) top-stream) bad-stream (mapRes (found ls) (withScratch n m)))
+      rw (text-iff text index .1 lines, cue)
+      (ap (λ (m : Res Form). check (leb (q .stream) top-stream) bad-stream (mapRes (found index) (withScratch n m)))
       (form-same (q .stream) file other (c .position) ps walk alike))
 
   pub reading-same : (b : Lent) → readingIn text file q b ≡ readingIn text other q b
@@ -42,11 +42,11 @@ module _ (text file other : List ℕ) (q : Wanted) (ls : List Said) (c : Cue) (p
 
 pub undisturbed : (text file : List ℕ) (q : Wanted) (b : Lent) (r : CanvasAnswer) (b′ : Lent)
     → CuePainted text file q b r b′ → Undisturbed text file q b r b′
-undisturbed text file q b r b′ x other ls c ps l e w a t b″ y =
-    let f = found-same text file other q ls c ps l e w a (length (b .scratch)) in
-    let g = reading-same text file other q ls c ps l e w a b in
+undisturbed text file q b r b′ x other index c ps l e w a t b″ y =
+    let f = found-same text file other q index c ps l e w a (length (b .scratch)) in
+    let g = reading-same text file other q index c ps l e w a b in
     record {
-      readings = readings-same text q ls c l e file other ps w a;
+      readings = readings-same text q index c l e file other ps w a;
       answer = x .answer ∙ ap canvasAnswer g ∙ sym (y .answer);
       scratch = x .in-scratch ∙ ap (λ (z : Res Found). sets (b .scratch) 0 (scratchOf z)) f ∙ sym (y .in-scratch);
       pixels = x .in-pixels ∙ ap (λ (z : Res Reading). sets (b .pixels) 0 (pixelsOf z)) g ∙ sym (y .in-pixels);

@@ -5,14 +5,14 @@ use mathlib.Core.List.{List}
 use lib.Dec.{leb}
 use lib.ListN.{length}
 use Rattle.outcome.specs.Outcome.{Res, check, need, andThen, mapRes, bad-stream, no-cue, short-pixels, short-words, short-canvas}
-use Rattle.grammar.specs.Index.{Said}
+use Rattle.grammar.specs.Index.{ListedText}
 use Rattle.grammar.specs.IndexCues.{cuesOf, cueAt}
 use Rattle.grammar.specs.Packets.{Form, unitOf, top-stream}
 use Rattle.grammar.specs.Bands.{bandWords}
 use Rattle.grammar.specs.Record.{told, width, height}
 use Rattle.grammar.specs.Picture.{ListedUnit}
 use Rattle.grammar.specs.Reading.{Wanted, wantedId, Reading}
-use Rattle.idx_model.specs.Text.{textOf}
+use Rattle.idx_model.specs.Text.{idxOf}
 use Rattle.ps_model.specs.Unit.{unitAt}
 use Rattle.control_model.specs.Chain.{controlAt}
 use Rattle.spu_model.specs.Unit.{rowsAt, listedUnit}
@@ -27,21 +27,21 @@ pub record Lent : Type 0 where
 abbrev pub lent : List ℕ → List ℕ → List ℕ → List ℕ → Lent
 lent s p w c = record { scratch = s; pixels = p; words = w; canvas = c }
 
--- the lines of the text, and how the unit of the cue stands in the file
+-- what is listed of the text, and how the unit of the cue stands in the file
 pub record Found : Type 0 where
-  pub lines : List Said
+  pub text : ListedText
   pub form : Form
 
-abbrev pub found : List Said → Form → Found
-found ls m = record { lines = ls; form = m }
+abbrev pub found : ListedText → Form → Found
+found t m = record { text = t; form = m }
 
 -- 1 to 9, then 32, then 11, then 12 to 14 with n bytes of scratch
 unfoldable pub foundFor : List ℕ → List ℕ → Wanted → ℕ → Res Found
 foundFor text file q n =
-    andThen (textOf text)
-    (λ ls. check (leb (q .stream) top-stream) bad-stream
-    (andThen (need no-cue (cueAt (cuesOf ls) (q .cue)))
-    (λ c. mapRes (found ls) (unitAt (wantedId q) file (c .position) n))))
+    andThen (idxOf text)
+    (λ t. check (leb (q .stream) top-stream) bad-stream
+    (andThen (need no-cue (cueAt (cuesOf t) (q .cue)))
+    (λ c. mapRes (found t) (unitAt (wantedId q) file (c .position) n))))
 
 -- 15 to 21, then 22 to 24 with so many pixels, words and canvas bytes, then 25 and 26
 unfoldable pub canvasIn : List ℕ → ℕ → ℕ → ℕ → Res ListedUnit
@@ -53,7 +53,7 @@ canvasIn u n m k =
     (check (leb (4 * (width (told bs) * height (told bs))) k) short-canvas (mapRes (listedUnit bs) (rowsAt u (told bs))))))
 
 abbrev pub reading : Wanted → Found → ListedUnit → Reading
-reading q f l = record { lines = f .lines; cue = q .cue; form = f .form; unit = l }
+reading q f l = record { text = f .text; cue = q .cue; form = f .form; unit = l }
 
 unfoldable pub readingIn : List ℕ → List ℕ → Wanted → Lent → Res Reading
 readingIn text file q b =

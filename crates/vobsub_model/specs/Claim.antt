@@ -6,7 +6,7 @@ use mathlib.Core.List.{List, []}
 use Prim.Native.Nat.{ℕ, _*_}
 use lib.ListN.{length, take}
 use lib.Seq.{sets}
-use Rattle.grammar.specs.Index.{Said, IsText}
+use Rattle.grammar.specs.Index.{ListedText, IsText}
 use Rattle.grammar.specs.IndexCues.{Cue, cuesOf, cueAt}
 use Rattle.grammar.specs.Packets.{Packet, unitOf, scratchFor}
 use Rattle.grammar.specs.Streams.{Walk, Alike}
@@ -72,6 +72,7 @@ pub record SameResults (text file other : List ℕ) (q : Wanted) (r t : CanvasAn
 -- gives the same
 abbrev pub Undisturbed : List ℕ → List ℕ → Wanted → Lent → CanvasAnswer → Lent → Type 0
 Undisturbed text file q b r b′ =
-    (other : List ℕ) (ls : List Said) (c : Cue) (ps : List Packet) → IsText text ls → cueAt (cuesOf ls) (q .cue) ≡ some c
+    (other : List ℕ) (index : ListedText) (c : Cue) (ps : List Packet)
+    → IsText text index → cueAt (cuesOf index) (q .cue) ≡ some c
     → Walk (wantedId q) file (c .position) [] ps → Alike (q .stream) file other ps
     → (t : CanvasAnswer) (b″ : Lent) → CuePainted text other q b t b″ → SameResults text file other q r t b′ b″

@@ -1,20 +1,24 @@
-// What the original says of a title, as the lines of the list program: `lines DIR`. A refused index has no number, as the original gives none.
-// The list program names stream 0: where others are on a cue's walk, the original is asked about a copy with their ids set to 00.
+// What the original says of a title, as the lines of the list program, into FILE: `lines DIR FILE`. A refused index has no number, as the
+// original gives none. The list program names stream 0: where others are on a cue's walk, the original is asked about a copy with their ids
+// set to 00. About an index of no bytes the original is not asked: the cue of empty.rs is listed, and the rule is printed.
 use oracle::side::{Spot, number_of};
 use oracle::walk::walk;
 use std::fs;
+use std::io::Write;
 use std::path::PathBuf;
 
-fn main() {
-    let folder = PathBuf::from(std::env::args().nth(1).expect("a folder"));
+fn main() -> std::io::Result<()> {
+    let mut words = std::env::args().skip(1).map(PathBuf::from);
+    let (Some(folder), Some(path)) = (words.next(), words.next()) else { panic!("lines DIR FILE") };
     let text = fs::read_to_string(folder.join("title.idx")).expect("title.idx");
     let file = fs::read(folder.join("title.sub")).expect("title.sub");
     let side = oracle::original::adapter::SIDE;
-    let Ok(index) = (side.index)(&text) else {
-        println!("index refused");
-        return;
+    let mut out = fs::File::create(path)?;
+    let rule = side.empty.rule(text.as_bytes());
+    let Ok(index) = rule.map_or_else(|| (side.index)(&text), |_| Ok((side.empty.index)())) else {
+        return writeln!(out, "index refused");
     };
-    println!("cues {}", index.cues.len());
+    writeln!(out, "cues {}", index.cues.len())?;
     for (n, &(start, position)) in index.cues.iter().enumerate() {
         let duration = (side.duration)(start, index.cues.get(n + 1).map(|c| c.0)).map_or("-".to_string(), |d| d.to_string());
         let position = position as usize;
@@ -28,8 +32,12 @@ fn main() {
             (side.unit)(&unit).map(|d| (d, codes)).map_err(|words| number_of(&words))
         });
         match shown {
-            Ok((d, codes)) => println!("{n} {start} {duration} {} {} {} {} {} {} {codes}", d.numbers[0], d.numbers[1], d.width, d.height, d.numbers[7], d.numbers[9]),
-            Err(number) => println!("{n} refused {number}"),
+            Ok((d, codes)) => writeln!(out, "{n} {start} {duration} {} {} {} {} {} {} {codes}", d.numbers[0], d.numbers[1], d.width, d.height, d.numbers[7], d.numbers[9])?,
+            Err(number) => writeln!(out, "{n} refused {number}")?,
         }
     }
+    if let Some(rule) = rule {
+        println!("{rule}");
+    }
+    Ok(())
 }

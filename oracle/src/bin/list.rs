@@ -5,14 +5,14 @@
 // 7 idx, 8 cue, 9 canvas), the refusal, a word with the number of bytes, four words with the request's numbers (of packets the position, the stream
 // and the scratch; a canvas has its stream in its bytes), and four bytes with the sum over the answer.
 //
-// Only requests on which both sides agree (or that a rule covers) go into the list, so many for each answer.
+// Only requests on which both sides agree (or that a rule covers) go into the list, so many for each answer; those of 7, 8 and 9 all differ.
 use oracle::CLIPPED;
 use oracle::class::{BYTE, Class, NUMBER, Request, START, Sum, WORD, World};
 use oracle::classes::{self, canvas};
 use oracle::port;
 use oracle::random::Random;
 use oracle::side::Side;
-use std::collections::BTreeMap;
+use std::collections::{BTreeMap, BTreeSet};
 
 const SEED: u64 = 7;
 const EACH: usize = 90;
@@ -153,7 +153,8 @@ fn answer(kind: u8, bytes: &[u8], n: [usize; 4]) -> (u8, u64) {
 fn rows(class: &Class, world: &World, side: &Side) -> (usize, Vec<u8>) {
     let mut out = Vec::new();
     let mut met: BTreeMap<u8, usize> = BTreeMap::new();
-    let (mut count, mut copied, mut clipped) = (0, 0, 0);
+    let mut taken = BTreeSet::new();
+    let (mut count, mut copied, mut clipped, mut empty) = (0, 0, 0, 0);
     for i in 0..60_000 {
         let q = (class.generate)(world, &mut Random::of(SEED, class.name, i));
         let n = numbers(class, side, &q);
@@ -178,6 +179,10 @@ fn rows(class: &Class, world: &World, side: &Side) -> (usize, Vec<u8>) {
         if refusal != o.refusal {
             continue;
         }
+        // short texts come again and again
+        if kind(class) > 6 && !taken.insert((q.bytes.clone(), n)) {
+            continue;
+        }
         let each = if title { EACH_TITLE } else { EACH };
         let quota = if refusal == 0 { 4 * each } else { each };
         let seen = met.entry(refusal).or_default();
@@ -188,6 +193,7 @@ fn rows(class: &Class, world: &World, side: &Side) -> (usize, Vec<u8>) {
         count += 1;
         copied += o.copied.is_some() as usize;
         clipped += o.met.contains(&CLIPPED) as usize;
+        empty += o.empty.is_some() as usize;
         out.extend([kind(class), refusal]);
         for word in [q.bytes.len(), n[0], n[1], n[2], n[3]] {
             out.extend((word as u16).to_be_bytes());
@@ -196,7 +202,11 @@ fn rows(class: &Class, world: &World, side: &Side) -> (usize, Vec<u8>) {
         out.extend(&q.bytes);
     }
     let met: Vec<String> = met.iter().map(|(r, c)| format!("{r}: {c}")).collect();
-    println!("{}: {count} rows ({}), {copied} with other streams on the walk, {clipped} with a clipped code", class.name, met.join(", "));
+    println!(
+        "{}: {count} rows ({}), {copied} with other streams on the walk, {clipped} with a clipped code, {empty} with a text of no bytes",
+        class.name,
+        met.join(", ")
+    );
     (count, out)
 }
 

@@ -2,10 +2,11 @@
 // stream, the text, the file.
 // n: how scratch, map, words and canvas are lent (0 exactly as long as needed, 1 longer, 2 one short, 3 none).
 use crate::class::*;
-use crate::classes::idx::{Expected, TIMES, expected, line, number};
+use crate::classes::idx::{ANY, Expected, SHORT_TEXTS, TIMES, expected, line, number, short_text};
 use crate::classes::packets::{above, another, in_packets};
 use crate::classes::unit::{area, by_mode, change, made, put, set_word};
 use crate::classes::{bands, field};
+use crate::empty::{self, GIVEN, NEAR, REFUSED};
 use crate::port;
 use crate::random::Random;
 use crate::side::{Painted, Seen, Side, number_of};
@@ -20,7 +21,7 @@ pub const CLASS: Class = Class {
     generate,
     compare,
     refusals: &[1, 2, 3, 4, 5, 6, 7, 8, 9, 11, 12, 13, 14, 15, 16, 17, 18, 19, 20, 21, 22, 23, 24, 25, 26, 32],
-    met: &[PARTED, ABSENT, CLIPPED, EXACT, LONG_FILL],
+    met: &[PARTED, ABSENT, CLIPPED, EXACT, LONG_FILL, GIVEN, REFUSED, NEAR],
     accepted: true,
     dear: 4,
 };
@@ -48,8 +49,8 @@ pub fn parts(bytes: &[u8]) -> (&[u8], &[u8], usize, usize) {
 }
 
 // Every cue of the small titles, lent exactly, more, and each buffer one short, and for another stream and 32; every cue of a title of few,
-// and of one of many each tenth.
-fn fixed(_: &World, each: &mut dyn FnMut(Request)) {
+// and of one of many each tenth. Every real unit with a text of no bytes.
+fn fixed(world: &World, each: &mut dyn FnMut(Request)) {
     for title in titles() {
         let (text, cues) = (title.text.as_bytes(), title.positions.len());
         let small = title.file.len() < 1 << 16;
@@ -68,7 +69,10 @@ fn fixed(_: &World, each: &mut dyn FnMut(Request)) {
             }
         }
     }
-    // the card, with every colour's selector and alpha
+    for file in &world.files {
+        each(request(b"", file, 0, stream_at(file, 0), [1; 4]));
+    }
+    // the card, with every colour's selector and alpha, also in greys
     let card = [0u8, 0x21, 0, 9, 0, 1, 0x60, 0, 0x30, 0, 0, 0, 9, 3, 1, 0x32, 4, 0x0F, 0xFF, 5, 0, 0, 1, 0, 0, 1, 6, 0, 4, 0, 6, 1, 0xFF];
     let text = b"palette: 010203,111213,212223,313233,414243,515253,616263,717273,818283,919293,a1a2a3,b1b2b3,c1c2c3,d1d2d3,e1e2e3,f1f2f3\ntimestamp: 00:00:01:000, filepos: 0";
     for b in 0..=255u8 {
@@ -76,6 +80,24 @@ fn fixed(_: &World, each: &mut dyn FnMut(Request)) {
             let mut unit = card;
             unit[at] = b;
             each(request(text, &unit, 0, b as usize % 32, [0; 4]));
+            each(request(b"", &unit, 0, b as usize % 32, [0; 4]));
+        }
+    }
+    // no bytes of text, or nearly none: without a unit, with a short or a bad one, with the card bare and in packets
+    let mut in_packet = vec![0, 0, 1, 0xBD, 0, card.len() as u8 + 4, 0x80, 0, 0, 0x20];
+    in_packet.extend(card);
+    let files: [&[u8]; 8] = [b"", b"\0", b"\0\0\0", b"\0\0\x01\xB9", b"\0\x04\0\x04", &card[..32], &card, &in_packet];
+    for file in files {
+        for (cue, stream) in [0, 1, 65535].into_iter().flat_map(|cue| [0, 1, 31, 32].map(|stream| (cue, stream))) {
+            for text in SHORT_TEXTS {
+                each(request(text, file, cue, stream, [1; 4]));
+            }
+            each(request(b"", file, cue, stream, [0; 4]));
+            for (buffer, mode) in (0..4).flat_map(|buffer| [2, 3].map(|mode| (buffer, mode))) {
+                let mut n = [0; 4];
+                n[buffer] = mode;
+                each(request(b"", file, cue, stream, n));
+            }
         }
     }
 }
@@ -292,11 +314,13 @@ fn text(r: &mut Random, fault: Fault, starts: &[String], positions: &[usize]) ->
 
 fn generate(world: &World, r: &mut Random) -> Request {
     let fault = fault(r);
-    let cues = r.within(1, 4);
+    // the cue of a text of no bytes is at the front of the file
+    let short = r.once_in(8).then(|| short_text(r));
+    let cues = if short.is_some() { 1 } else { r.within(1, 4) };
     let mut cue = r.below(cues);
     let mut stream = r.below(TOP_STREAM + 1);
     let second = another(r, stream);
-    let some = r.below(9);
+    let some = if short.is_some() { 0 } else { r.below(9) };
     let mut file = r.bytes(some);
     let (mut starts, mut positions, mut time) = (Vec::new(), Vec::new(), 0);
     for i in 0..cues {
@@ -331,6 +355,7 @@ fn generate(world: &World, r: &mut Random) -> Request {
     let position = positions[cue];
     match fault {
         Fault::NoCue => cue = *r.pick(&[cues, cues + 1, 65535]),
+        Fault::Past if short.is_some() => file.clear(),
         Fault::Past => positions[cue] = file.len() + r.below(3),
         Fault::NoUnit => match r.below(3) {
             0 => file[position..].fill(0),
@@ -360,7 +385,7 @@ fn generate(world: &World, r: &mut Random) -> Request {
         5 | 6 => stream = above(r, stream).min(65535),
         _ => {}
     }
-    let text = text(r, fault, &starts, &positions);
+    let text = short.unwrap_or_else(|| text(r, fault, &starts, &positions));
     request(&text, &file, cue, stream, n)
 }
 
@@ -442,7 +467,9 @@ impl Lent {
 }
 
 fn compare(side: &Side, q: &Request) -> Outcome {
-    LENT.with(|lent| compared(&mut lent.borrow_mut(), side, q))
+    let mut o = LENT.with(|lent| compared(&mut lent.borrow_mut(), side, q));
+    o.met.extend(empty::met(&o, parts(&q.bytes).0));
+    o
 }
 
 const SHORT: [&str; 3] = ["22: a map is lent, and too short", "23: words are lent, and too few", "24: a canvas is lent, and too short"];
@@ -453,9 +480,9 @@ fn compared(lent: &mut Lent, side: &Side, q: &Request) -> Outcome {
     let (text, file, cue, stream) = parts(&q.bytes);
     // as much as a refusal before the unit may meet
     let some = [64, 64, 64, 256];
-    let (index, panicked) = expected(side, text, usize::MAX);
-    o.panicked = panicked;
-    let index = match index {
+    let (index, panicked) = expected(side, text, ANY);
+    (o.panicked, o.empty) = (panicked, side.empty.rule(text));
+    let mut index = match index {
         Expected::Refused(number, rule) => {
             o.rule = rule;
             let a = lent.ask(q, some);
@@ -475,6 +502,10 @@ fn compared(lent: &mut Lent, side: &Side, q: &Request) -> Outcome {
         let a = lent.ask(q, some);
         lent.refused(&mut o, &a, 11, some, &[]);
         return o;
+    }
+    if o.empty.is_some() {
+        // the original's decoder is made without a palette, and then has greys of its own
+        index.palette.clear();
     }
     let walk = walk(file, index.cues[cue].1 as usize, stream);
     let file = &walk.copy(file)[..];
@@ -538,7 +569,7 @@ fn compared(lent: &mut Lent, side: &Side, q: &Request) -> Outcome {
 pub fn rooms(side: &Side, q: &Request) -> [usize; 4] {
     let some = [64, 1024, 256, 4096];
     let (text, file, cue, stream) = parts(&q.bytes);
-    let Expected::Given(index) = expected(side, text, usize::MAX).0 else { return some };
+    let Expected::Given(index) = expected(side, text, ANY).0 else { return some };
     if stream > TOP_STREAM || cue >= index.cues.len() {
         return some;
     }
@@ -586,7 +617,7 @@ fn found(o: &mut Outcome, lent: &mut Lent, q: &Request, p: &Painted, scratch: us
         o.rule = Some(SHORT[short]);
         return lent.refused(o, &a, 22 + short as u8, rooms, stored);
     }
-    o.both = a.refusal == 0 && o.panicked.is_none();
+    o.both = a.refusal == 0 && o.panicked.is_none() && o.empty.is_none();
     o.must(a.refusal == 0, || format!("the original accepts; the port says {}", a.refusal));
     let start = p.start.expect("a start");
     o.must(p.time == p.start, || "the original's frame has another time than its packet".into());

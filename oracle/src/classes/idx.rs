@@ -1,11 +1,33 @@
 // Index texts, whole (`CLASS`; n: how many starts and how many positions the lent buffers hold) and one cue of them (`CUE`; n: the cue).
 use crate::class::*;
+use crate::empty::{self, BLANKS, GIVEN, NEAR, REFUSED};
 use crate::port;
 use crate::random::Random;
 use crate::side::{Index, Side};
 
-pub const CLASS: Class = Class { name: "idx", fixed, generate, compare, refusals: &[1, 2, 3, 4, 5, 6, 7, 8, 9, 10], met: &[], accepted: true, dear: 1 };
-pub const CUE: Class = Class { name: "cue", fixed: fixed_cues, generate: generate_cue, compare: compare_cue, refusals: &[1, 2, 3, 4, 5, 6, 7, 8, 9, 11], met: &[], accepted: true, dear: 1 };
+pub const CLASS: Class = Class {
+    name: "idx",
+    fixed,
+    generate,
+    compare,
+    refusals: &[1, 2, 3, 4, 5, 6, 7, 8, 9, 10],
+    met: &[GIVEN, REFUSED, NEAR],
+    accepted: true,
+    dear: 1,
+};
+pub const CUE: Class = Class {
+    name: "cue",
+    fixed: fixed_cues,
+    generate: generate_cue,
+    compare: compare_cue,
+    refusals: &[1, 2, 3, 4, 5, 6, 7, 8, 9, 11],
+    met: &[GIVEN, REFUSED, NEAR],
+    accepted: true,
+    dear: 1,
+};
+
+// No bytes, and texts near that which have no cue.
+pub const SHORT_TEXTS: [&[u8]; 8] = [b"", b" ", b"\n", b"#", b"\0", b"\r\n", b"  \t", b"\n \n\x0b\x0c"];
 
 fn each_word(alphabet: &[&str], longest: u32, f: &mut dyn FnMut(&str)) {
     for length in 0..=longest {
@@ -41,6 +63,13 @@ fn fixed(world: &World, each: &mut dyn FnMut(Request)) {
             each(Request { bytes: vec![a, b], n: [9, 9, 0, 0] });
         }
     }
+    for text in SHORT_TEXTS {
+        for starts in [0, 1, 2, 9] {
+            for positions in [0, 1, 2, 9] {
+                each(Request { bytes: text.to_vec(), n: [starts, positions, 0, 0] });
+            }
+        }
+    }
     // every byte before a line's word, within it and after it
     for b in 0..=255 {
         for at in [0, 3, 5, 8, 13, 21, 22, 29, 30, 31] {
@@ -74,6 +103,23 @@ fn fixed_cues(world: &World, each: &mut dyn FnMut(Request)) {
                 }
             }
         }
+    }
+    for text in SHORT_TEXTS {
+        for cue in [0, 1, 2, 65535, 65536, 1 << 32, usize::MAX - 1, usize::MAX] {
+            each(Request { bytes: text.to_vec(), n: [cue, 0, 0, 0] });
+        }
+    }
+}
+
+// Mostly no bytes.
+pub fn short_text(r: &mut Random) -> Vec<u8> {
+    match r.below(6) {
+        0 => vec![*r.pick(b" \n#\0")],
+        1 => {
+            let some = r.within(2, 6);
+            (0..some).map(|_| *r.pick(&BLANKS)).collect()
+        }
+        _ => Vec::new(),
     }
 }
 
@@ -185,6 +231,9 @@ fn text(world: &World, r: &mut Random) -> Vec<u8> {
 }
 
 fn generate(world: &World, r: &mut Random) -> Request {
+    if r.once_in(8) {
+        return Request { bytes: short_text(r), n: [r.below(3), r.below(3), 0, 0] };
+    }
     let bytes = text(world, r);
     let mut n = [12, 12, 0, 0];
     if r.once_in(10) {
@@ -197,6 +246,10 @@ fn generate(world: &World, r: &mut Random) -> Request {
 }
 
 fn generate_cue(world: &World, r: &mut Random) -> Request {
+    if r.once_in(16) {
+        let cue = if r.once_in(2) { 0 } else { *r.pick(&[1, 2, 255, 256, 65535, usize::MAX]) };
+        return Request { bytes: short_text(r), n: [cue, 0, 0, 0] };
+    }
     let mut bytes = text(world, r);
     if r.once_in(6) {
         // two cues more, whose starts may be far apart
@@ -220,9 +273,17 @@ pub enum Expected {
     Given(Index),
 }
 
-// What the port must say of a text with room for so many cues, and the words of the original where it panicked.
-pub fn expected(side: &Side, bytes: &[u8], room: usize) -> (Expected, Option<String>) {
+// Room for any number of cues.
+pub const ANY: [usize; 2] = [usize::MAX; 2];
+
+// What the port must say of a text with room for so many starts and positions, and the words of the original where it panicked.
+pub fn expected(side: &Side, bytes: &[u8], [starts, positions]: [usize; 2]) -> (Expected, Option<String>) {
     const SHORT: Expected = Expected::Refused(10, Some("10: cue buffers are lent, and too short"));
+    if (side.empty.no_bytes)(bytes) {
+        let room = (side.empty.has_room)(starts, positions);
+        return (if room { Expected::Given((side.empty.index)()) } else { Expected::Refused(10, None) }, None);
+    }
+    let room = starts.min(positions);
     if bytes.iter().any(|&b| b >= 0x80) {
         return (Expected::Refused(1, Some("1: a byte of 80 or above")), None);
     }
@@ -252,8 +313,8 @@ fn compare(side: &Side, q: &Request) -> Outcome {
     let (mut starts, mut positions) = (vec![START; a], vec![NUMBER as u64; b]);
     let (mut palette, mut numbers) = ([BYTE; port::COLOURS], [NUMBER; port::INDEX_NUMBERS]);
     let refusal = port::parse_idx(&q.bytes, &mut starts, &mut positions, &mut palette, &mut numbers);
-    let (expected, panicked) = expected(side, &q.bytes, a.min(b));
-    let mut o = Outcome { refusal, panicked, ..Default::default() };
+    let (expected, panicked) = expected(side, &q.bytes, [a, b]);
+    let mut o = Outcome { refusal, panicked, empty: side.empty.rule(&q.bytes), ..Default::default() };
     let mut stored = 0;
     match expected {
         Expected::Refused(number, rule) => {
@@ -262,8 +323,8 @@ fn compare(side: &Side, q: &Request) -> Outcome {
             o.must(palette == [BYTE; port::COLOURS] && numbers == [NUMBER; port::INDEX_NUMBERS], || "the palette or the numbers are written on a refusal".into());
         }
         Expected::Given(index) => {
-            o.both = refusal == 0;
-            o.must(refusal == 0, || format!("the original accepts; the port says {refusal}"));
+            o.both = refusal == 0 && o.empty.is_none();
+            o.must(refusal == 0, || format!("an accepted text; the port says {refusal}"));
             if refusal == 0 {
                 stored = numbers[port::CUES].min(a).min(b);
                 let said = Index {
@@ -279,6 +340,7 @@ fn compare(side: &Side, q: &Request) -> Outcome {
     }
     o.must(starts[stored..].iter().all(|&s| s == START), || "starts are written where nothing is stored".into());
     o.must(positions[stored..].iter().all(|&p| p == NUMBER as u64), || "positions are written where nothing is stored".into());
+    o.met.extend(empty::met(&o, &q.bytes));
     o
 }
 
@@ -286,8 +348,8 @@ fn compare_cue(side: &Side, q: &Request) -> Outcome {
     let cue = q.n[0];
     let (mut start, mut palette, mut numbers) = (START, [BYTE; port::COLOURS], [NUMBER as u64; port::CUE_NUMBERS]);
     let refusal = port::pick_cue(&q.bytes, cue, &mut start, &mut palette, &mut numbers);
-    let (expected, panicked) = expected(side, &q.bytes, usize::MAX);
-    let mut o = Outcome { refusal, panicked, ..Default::default() };
+    let (expected, panicked) = expected(side, &q.bytes, ANY);
+    let mut o = Outcome { refusal, panicked, empty: side.empty.rule(&q.bytes), ..Default::default() };
     let mut refused = true;
     match expected {
         Expected::Refused(number, rule) => {
@@ -311,8 +373,8 @@ fn compare_cue(side: &Side, q: &Request) -> Outcome {
                     Some((next.expect("a next cue") as i128 - theirs as i128).clamp(0, i64::MAX as i128) as i64)
                 }
             };
-            o.both = refusal == 0 && o.panicked.is_none();
-            o.must(refusal == 0, || format!("the original has cue {cue}; the port says {refusal}"));
+            o.both = refusal == 0 && o.panicked.is_none() && o.empty.is_none();
+            o.must(refusal == 0, || format!("there is a cue {cue}; the port says {refusal}"));
             o.must(start == theirs, || format!("the start {theirs}; the port says {start}"));
             let asked = [position, lasts.is_some() as u64, lasts.unwrap_or(0) as u64, index.has_palette as u64];
             o.must(numbers == asked, || format!("the numbers {asked:?}; the port says {numbers:?}"));
@@ -320,5 +382,6 @@ fn compare_cue(side: &Side, q: &Request) -> Outcome {
         }
     }
     o.must(!refused || start == START && palette == [BYTE; port::COLOURS] && numbers == [NUMBER as u64; port::CUE_NUMBERS], || "start, palette or numbers are written on a refusal".into());
+    o.met.extend(empty::met(&o, &q.bytes));
     o
 }

@@ -16,6 +16,9 @@ slice-aggregate-form c = search needs
 form-requires : tie.Need-form-requires Inv-loop μ-loop
 form-requires c κs = search needs
 
+black-requires : tie.Need-black-requires Inv-loop μ-loop
+black-requires c κs = search needs
+
 returns : tie.Need-returns Inv-loop μ-loop
 returns c = search needs
 
@@ -57,6 +60,7 @@ colours-spec =
     μ-loop
     slice-aggregate-form
     form-requires
+    black-requires
     returns
     loop-holds
     slice-aggregate-say

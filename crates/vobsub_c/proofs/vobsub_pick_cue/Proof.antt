@@ -8,7 +8,7 @@ use mir.Facts.{toZ-ofZ}
 use mir.Syntax.{w64}
 use borrow.Author.Needs.{needs}
 use borrow.Author.Tests.{eq-eqb, ne-eqb}
-use Rattle.idx_model.specs.Text.{textOf}
+use Rattle.idx_model.specs.Text.{idxOf}
 use Rattle.idx_model.specs.Answers.{pickOf, cueAnswer}
 use Rattle.idx_model.specs.declared.CueAnswer.{CueAnswer}
 use Rattle.vobsub_c.specs.Answers.{cueRecord, cueStart, cuePalette, CueGiven}
@@ -17,7 +17,7 @@ use Rattle.vobsub_c.proofs.Returned.{cue-returned}
 use Rattle.vobsub_c.proofs.vobsub_pick_cue.Statement.{statement}
 use Rattle.vobsub_c.proofs.vobsub_pick_cue.Tie as tie
 
-module _ (t : List ℕ) (n : ℕ) (z : ℤ) (px ns : List ℕ) (a : CueAnswer) (q : a ≡ cueAnswer (pickOf (textOf t) n)) where
+module _ (t : List ℕ) (n : ℕ) (z : ℤ) (px ns : List ℕ) (a : CueAnswer) (q : a ≡ cueAnswer (pickOf (idxOf t) n)) where
   -- what is left where nothing is refused; the start goes through 64 bits
   accepted : a .refused ≡ 0 → (z′ : ℤ) → z′ ≡ a .start → (ns′ : List ℕ) → ns′ ≡ cueNumbers a → CueGiven t n z px ns 0 z′ (a .palette) ns′
   accepted e z′ k ns′ h =
