@@ -13,7 +13,7 @@ use Rattle.outcome.specs.Outcome.{short-cues, no-cue}
 use Rattle.grammar.specs.Bands.{Band, Bands}
 use Rattle.grammar.specs.IndexParts.{blank, All}
 use Rattle.grammar.specs.Index.{greys, ListedText, of-lines, no-bytes, IsText}
-use Rattle.grammar.specs.IndexCues.{Cue, paletteOf, hasPalette}
+use Rattle.grammar.specs.IndexCues.{Cue, cuesOf, paletteOf, hasPalette}
 use Rattle.grammar.specs.Packets.{Packet, Form, IsForm, unitOf, streamId, top-stream}
 use Rattle.grammar.specs.Picture.{ListedUnit, IsUnit}
 use Rattle.grammar.specs.Pixels.{clippedIn}
@@ -27,7 +27,7 @@ use Rattle.grammar.proofs.UniqueIndex.{text-unique}
 use Rattle.grammar.proofs.UniquePackets.{form-unique}
 use Rattle.grammar.proofs.Clipped.{clipped-paints, clipped-cut, unclipped-whole, clipped-reading-most}
 use Rattle.grammar.proofs.Streams.{walk-same}
-use Rattle.grammar.proofs.NoBytes.{no-bytes-listed, no-bytes-reading, no-bytes-read, grey-rule, bytes-black}
+use Rattle.grammar.proofs.NoBytes.{no-bytes-listed, only-no-bytes, no-bytes-reading, no-bytes-read, grey-entries, grey-rule, bytes-black}
 use Rattle.rle_model.specs.declared.FieldAnswer.{FieldAnswer}
 use Rattle.rle_model.specs.Answers as field
 use Rattle.rle_model.specs.Claim as field-claim
@@ -47,7 +47,7 @@ use Rattle.idx_model.specs.Text.{idxOf}
 use Rattle.idx_model.specs.Answers.{IdxRead, pickOf, cueAnswer}
 use Rattle.idx_model.specs.Claim.{IdxSays, CueSays}
 use Rattle.idx_model.proofs.Claim.{idx-claim, cue-claim}
-use Rattle.idx_model.proofs.NoBytes.{read-short, read-stored, picked-first, picked-other, blanks-listed, blanks-unread}
+use Rattle.idx_model.proofs.NoBytes.{read-short, read-stored, picked-first, picked-other, blanks-listed, blanks-cueless, blanks-read, blanks-picked, blanks-unread}
 use Rattle.spu_model.specs.declared.SpuAnswer.{SpuAnswer}
 use Rattle.spu_model.specs.Unit.{unitAt}
 use Rattle.spu_model.specs.Answers as unit
@@ -160,19 +160,24 @@ one-text = text-unique
 
 -- An index of no bytes (`parse_idx`, `pick_cue`, `decode_cue`) is listed in one way, as one cue in greys. It needs a
 -- place in both buffers, and is stored in the first of each; it has cue 0 and no other; its readings are those of the
--- units at the file's front, in greys. Entry i of these is 17 times i in red, green and blue. No other text is listed
--- so: one of blanks alone says nothing and has no cue, so no reading, and a text with a byte in which no line gives a
--- palette is black.
+-- units at the file's front, in greys. Entry i of the 16 is 17 times i in red, green and blue. No other text is listed
+-- so: one of blanks alone has no cue, so no reading, and needs no place, and a text with a byte in which no line gives
+-- a palette is black.
 pub an-empty-index : (t : ListedText) → IsText [] t ↔ (t ≡ no-bytes greys)
 an-empty-index = no-bytes-listed
 
+pub no-other-text : (text p : List ℕ) → IsText text (no-bytes p) → (text ≡ []) × (p ≡ greys)
+no-other-text = only-no-bytes
+
 pub an-empty-index-short : (starts : List ℤ) (positions : List ℕ) (r : IdxAnswer)
-    (starts′ : List ℤ) (positions′ : List ℕ) → IdxRead [] starts positions r starts′ positions′ → min (length starts) (length positions) ≡ 0
+    (starts′ : List ℤ) (positions′ : List ℕ)
+    → IdxRead [] starts positions r starts′ positions′ → min (length starts) (length positions) ≡ 0
     → (r .refused ≡ short-cues) × (starts′ ≡ starts) × (positions′ ≡ positions)
 an-empty-index-short = read-short
 
 pub an-empty-index-stored : (starts : List ℤ) (positions : List ℕ) (r : IdxAnswer)
-    (starts′ : List ℤ) (positions′ : List ℕ) → IdxRead [] starts positions r starts′ positions′ → 0 < min (length starts) (length positions)
+    (starts′ : List ℤ) (positions′ : List ℕ)
+    → IdxRead [] starts positions r starts′ positions′ → 0 < min (length starts) (length positions)
     → (r ≡ record { refused = 0; width = 0; height = 0; «has_palette» = false; palette = greys; cues = 1 })
     × (starts′ ≡ set starts 0 (pos 0)) × (positions′ ≡ set positions 0 0)
 an-empty-index-stored = read-stored
@@ -203,11 +208,26 @@ pub every-front-unit : (file : List ℕ) (q : Wanted) (m : Form) (u : ListedUnit
     → IsReading [] file q (record { text = no-bytes greys; cue = 0; form = m; unit = u })
 every-front-unit = no-bytes-read
 
-pub each-grey : (i c : ℕ) → i < 16 → c < 3 → getD greys (3 * i + c) 0 ≡ 17 * i
-each-grey = grey-rule
+pub each-grey : (length greys ≡ 3 * 16) × ((i c : ℕ) → i < 16 → c < 3 → getD greys (3 * i + c) 0 ≡ 17 * i)
+each-grey = (grey-entries .1, grey-rule)
 
 pub blanks-alone : (text : List ℕ) → All blank text → (text ≡ [] → ⊥) → IsText text (of-lines [])
 blanks-alone = blanks-listed
+
+pub blanks-no-cue : (text : List ℕ) → All blank text → (text ≡ [] → ⊥)
+    → (t : ListedText) → IsText text t → cuesOf t ≡ []
+blanks-no-cue = blanks-cueless
+
+pub blanks-parsed : (text : List ℕ) → All blank text → (text ≡ [] → ⊥)
+    → (starts : List ℤ) (positions : List ℕ) (r : IdxAnswer) (starts′ : List ℤ) (positions′ : List ℕ)
+    → IdxRead text starts positions r starts′ positions′
+    → (r ≡ record { refused = 0; width = 0; height = 0; «has_palette» = false; palette = replicate 48 0; cues = 0 })
+    × (starts′ ≡ starts) × (positions′ ≡ positions)
+blanks-parsed = blanks-read
+
+pub blanks-unpicked : (text : List ℕ) → All blank text → (text ≡ [] → ⊥)
+    → (n : ℕ) (r : CueAnswer) → r ≡ cueAnswer (pickOf (idxOf text) n) → r .refused ≡ no-cue
+blanks-unpicked = blanks-picked
 
 pub blanks-unreadable : (text file : List ℕ) (q : Wanted) → All blank text → (text ≡ [] → ⊥)
     → (x : Reading) → IsReading text file q x → ⊥

@@ -17,7 +17,8 @@ use Rattle.grammar.specs.Packets.{Packet, Stuffing, Header1, Header2, Is
 use Rattle.grammar.specs.Parts.{Part}
 use Rattle.grammar.specs.IndexParts.{All, Trimmed}
 use Rattle.grammar.specs.IndexNumbers.{Valued, isDigit, numeral, Digits, Unsigned, Signed, top-position}
-use Rattle.grammar.specs.Index.{Said, palette, top-side, top-token, Tokens, Fields, Stays, IsTimestamp, Says, IsLines}
+use Rattle.grammar.specs.Index.{palette, top-side, top-token, Tokens, Fields, Stays, IsTimestamp, Says, ListedText, of-lines, no-bytes, IsText}
+use Rattle.grammar.proofs.UniqueParts.{has-byte}
 
 -- ---- Entries and bands
 
@@ -257,14 +258,16 @@ time-4 : (r : Part) (ps : List Part) (fs : List (Valued ℤ)) (n : Valued ℕ) �
 time-4 r ps fs n h = fields-most 4 (h .all-fields) fs (h .first-four)
 
 -- a byte of 127 stands in a text, and one of 128 in none
-low-fits : IsLines (127 ∷ []) []
-low-fits =
-    record {
-      low = (refl, tt);
-      all-lines = line ∷ [];
-      parted = (refl, refl, (refl, tt));
-      listed = (line, trim, inl (λ w. other (w .1), λ w. other (w .1), λ w. other (w .1)), tt);
-    }
+low-fits : IsText (127 ∷ []) (of-lines [])
+low-fits = (
+  has-byte 127 [],
+  record {
+    low = (refl, tt);
+    all-lines = line ∷ [];
+    parted = (refl, refl, (refl, tt));
+    listed = (line, trim, inl (λ w. other (w .1), λ w. other (w .1), λ w. other (w .1)), tt);
+  },
+)
   where
     line : Part
     line = record { place = 0; bytes = 127 ∷ [] }
@@ -285,5 +288,6 @@ low-fits =
     other : {x y : ℕ} {r : List ℕ} → 127 ∷ [] ≡ x ∷ y ∷ r → ⊥
     other e = let z = ap length e in omega (arith, z)
 
-low-over : (ls : List Said) → IsLines (128 ∷ []) ls → ⊥
-low-over ls h = let z = ltb-true 128 128 (h .low .0) in omega (arith, z)
+low-over : (t : ListedText) → IsText (128 ∷ []) t → ⊥
+low-over (of-lines ls) h = let z = ltb-true 128 128 (h .1 .low .0) in omega (arith, z)
+low-over (no-bytes p) h = has-byte 128 [] (h .0)

@@ -1,6 +1,6 @@
 -- The text of no bytes (FORMAT 1.13): cards for what it gives, which the claim does not guard, as reader and grammar
--- share it; the rule of its greys at every entry; which texts are listed so, and that one of blanks alone is not: it has
--- a byte and says nothing; and what its readings are. Assumes nothing.
+-- share it; the rule of its greys at every entry; which texts are listed so, and that one of blanks alone is not: it
+-- has a byte and says nothing; and what its readings are. Assumes nothing.
 use Prim.Native.Nat.{ℕ, zero, suc, _+_, _*_, _≤_, _<_}
 use native.Mathlib.Omega.{arith}
 use mathlib.Core.Path.{_≡_, refl, sym, ap, _∙_, subst}
@@ -65,6 +65,17 @@ grey-rule i c h k = let z : 17 * (0 + i) ≡ 17 * i = omega arith in grey-from 1
 
 -- ---- Which texts are listed so
 
+-- a text of no bytes is listed in one way
+pub no-bytes-listed : (t : ListedText) → IsText [] t ↔ (t ≡ no-bytes greys)
+no-bytes-listed t = (
+  λ h. text-unique [] t (no-bytes greys) h (refl, refl),
+  λ e. subst (IsText []) (sym e) (refl, refl),
+)
+
+-- and no other text is listed so
+pub only-no-bytes : (text p : List ℕ) → IsText text (no-bytes p) → (text ≡ []) × (p ≡ greys)
+only-no-bytes text p h = h
+
 -- the list of no lines is not that of no bytes
 pub no-lines-not-so : IsText [] (of-lines []) → ⊥
 no-lines-not-so h = h .0 refl
@@ -121,7 +132,7 @@ blanks-say-nothing at s (p ∷ q ∷ ps) h k =
           (all-rest blank (p .bytes) (line-end ∷ h .1) a .1),
     )
 
--- a text with a byte in which no line gives a palette is black
+-- where no palette line has a token the palette stays, and so a text with a byte is black
 no-token-same : (was : List ℕ) (ls : List Said) → linesHavePalette ls ≡ false → paletteFrom was ls ≡ was
 unfolding paletteFrom linesHavePalette coloursOf
 no-token-same was [] h = refl
@@ -136,13 +147,6 @@ bytes-black text (of-lines ls) h f e = no-token-same first-palette ls e
 bytes-black text (no-bytes p) h f e = absurd (f (h .0))
 
 -- ---- Readings
-
--- a text of no bytes is listed in one way
-pub no-bytes-listed : (t : ListedText) → IsText [] t ↔ (t ≡ no-bytes greys)
-no-bytes-listed t = (
-  λ h. text-unique [] t (no-bytes greys) h (refl, refl),
-  λ e. subst (IsText []) (sym e) (refl, refl),
-)
 
 -- its cue is cue 0, and lasts on
 abbrev only : Cue

@@ -15,7 +15,7 @@ pub no-two : (text file : List ℕ) (q : Wanted) (r s : Reading) → IsReading t
 no-two text file q r s h k =
     let l : r .text ≡ s .text = text-unique text (r .text) (s .text) (h .text-is) (k .text-is) in
     let n : r .cue ≡ s .cue = h .cue-is ∙ sym (k .cue-is) in
-    let c′ : some (h .at) ≡ some (k .at) = sym (h .listed) ∙ ap₂ (λ (ls : ListedText) (m : ℕ). cueAt (cuesOf ls) m) l n ∙ k .listed in
+    let c′ : some (h .at) ≡ some (k .at) = sym (h .listed) ∙ ap₂ (λ (t : ListedText) (m : ℕ). cueAt (cuesOf t) m) l n ∙ k .listed in
     let c : h .at ≡ k .at = cc c′ in
     let f : r .form ≡ s .form = form-unique (wantedId q) file (h .at .position) (r .form) (s .form) (h .form-is) (rw c (k .form-is)) in
     let u : r .unit ≡ s .unit = unit-unique (unitOf (r .form)) (r .unit) (s .unit) (h .unit-is) (rw f (k .unit-is)) in

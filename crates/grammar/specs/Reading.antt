@@ -28,7 +28,8 @@ wanted n s = record { cue = n; stream = s }
 abbrev pub wantedId : Wanted → ℕ → Bool
 wantedId q = streamId (q .stream)
 
--- what is listed of the text, which of its cues is read, how its unit stands in the file, and the unit's blocks and rows
+-- what is listed of the text, which of its cues is read, how its unit stands in the file, and the unit's blocks and
+-- rows
 pub record Reading : Type 0 where
   pub text : ListedText
   pub cue : ℕ

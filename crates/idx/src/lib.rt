@@ -273,6 +273,7 @@ fn accepted_idx(seen: Seen, palette: [u8; 48]) -> IdxAnswer
     }
 }
 
+// The constant, held to its rule by the contract.
 fn grey_palette() -> [u8; 48]
     ensures { λ r. ⌜ r ≡ greys ⌝ }
 {
@@ -283,10 +284,8 @@ fn grey_palette() -> [u8; 48]
 fn parse_empty_idx(starts: &mut [i64], positions: &mut [u64]) -> IdxAnswer
     ensures { λ r. ⌜ IdxRead [] (now (starts .entry)) (now (positions .entry)) r (now (starts .exit)) (now (positions .exit)) ⌝ }
 {
-    if starts.len() == 0 {
-        return refused_idx(SHORT_CUES);
-    }
-    if positions.len() == 0 {
+    let room = shorter(starts.len(), positions.len());
+    if room == 0 {
         return refused_idx(SHORT_CUES);
     }
     starts[0] = 0;
@@ -387,7 +386,7 @@ fn picked_cue(seen: Seen, cue: usize, palette: [u8; 48]) -> CueAnswer
 }
 
 // Cue 0 of a text of no bytes, which has no other.
-fn pick_empty_cue(cue: usize) -> CueAnswer
+fn pick_empty_idx(cue: usize) -> CueAnswer
     ensures { λ r. ⌜ r ≡ cueAnswer (pickOf (idxOf []) cue) ⌝ }
 {
     if cue > 0 {
@@ -405,13 +404,13 @@ fn pick_empty_cue(cue: usize) -> CueAnswer
     }
 }
 
-// One cue of a text, without cue buffers: every line is checked all the same.
+// One cue of a text, without cue buffers: every line is checked all the same. A text of no bytes has cue 0, in greys.
 // Ruled out: a text with a bad later line accepted, and a duration below 0.
 pub fn pick_cue(text: &[u8], cue: usize) -> CueAnswer
     ensures { λ r. ⌜ (r ≡ cueAnswer (pickOf (idxOf (now (text .entry))) cue)) × CueSays (now (text .entry)) cue r ⌝ }
 {
     if text.len() == 0 {
-        return pick_empty_cue(cue);
+        return pick_empty_idx(cue);
     }
     let mut palette = [0u8; 48];
     match measure(text, 18446744073709551615, cue, &mut palette) {

@@ -6,12 +6,12 @@ use mathlib.Core.Bool.{false}
 use mathlib.Core.List.{List, [], _∷_}
 use native.Mathlib.Omega.{arith}
 use lib.IntN.{ℤ, pos}
-use lib.ListN.{length, set}
+use lib.ListN.{length, set, replicate}
 use borrow.Author.Tests.{lt-ltb}
-use Rattle.outcome.specs.Outcome.{ok, refuse, no-cue, short-cues}
+use Rattle.outcome.specs.Outcome.{Res, ok, refuse, no-cue, short-cues}
 use Rattle.grammar.specs.IndexParts.{blank, line-end, All}
-use Rattle.grammar.specs.Index.{greys, of-lines, no-bytes, IsText}
-use Rattle.grammar.specs.IndexCues.{cuesOfLines, cueAt, durationOf}
+use Rattle.grammar.specs.Index.{greys, ListedText, of-lines, no-bytes, IsText}
+use Rattle.grammar.specs.IndexCues.{cuesOfLines, paletteFrom, linesHavePalette, sizeFrom, cuesOf, cueAt, durationOf}
 use Rattle.grammar.specs.Reading.{Wanted, Reading, IsReading}
 use Rattle.grammar.proofs.NoBytes.{low-blanks, blanks-say-nothing, no-cue-unread}
 use Rattle.idx_numbers_model.specs.Parts.{split}
@@ -20,6 +20,7 @@ use Rattle.idx_model.specs.Text.{idxIn, idxOf}
 use Rattle.idx_model.specs.Answers.{idxAnswer, idxWith, IdxRead, pickOf, cueAnswer}
 use Rattle.idx_model.specs.declared.IdxAnswer.{IdxAnswer}
 use Rattle.idx_model.specs.declared.CueAnswer.{CueAnswer}
+use Rattle.idx_model.proofs.Grammar.{text-iff, room-iff, text-unique}
 
 -- a text of length 0
 no-text : (text : List ℕ) → length text ≡ 0 → [] ≡ text
@@ -45,12 +46,12 @@ module _ (starts : List ℤ) (positions : List ℕ) where
       let q : idxWith starts positions [] ≡ refuse short-cues = rw e in
       record { answer = f ∙ ap idxAnswer (sym q); starts-are = rw q; positions-are = rw q }
 
-  pub one-stored : 0 < length starts → 0 < length positions → (z : ℤ) → z ≡ pos 0 → (p : List ℕ) → p ≡ greys
+  pub one-stored : 0 < min (length starts) (length positions) → (z : ℤ) → z ≡ pos 0 → (p : List ℕ) → p ≡ greys
       → IdxRead [] starts positions
       (record { refused = 0; width = 0; height = 0; «has_palette» = false; palette = p; cues = 1 })
       (set starts 0 z) (set positions 0 0)
   unfolding idxIn idxAnswer
-  one-stored h k z f p e =
+  one-stored k z f p e =
       let q : idxWith starts positions [] ≡ ok (no-bytes greys) =
       rw (lt-ltb 0 (min (length starts) (length positions)) (omega arith)) in
       record {
@@ -59,7 +60,7 @@ module _ (starts : List ℤ) (positions : List ℕ) where
         positions-are = rw q;
       }
 
--- ---- `pick_empty_cue`
+-- ---- `pick_empty_idx`
 pub other-cue : (cue : ℕ) → 0 < cue → cueAnswer (refuse no-cue) ≡ cueAnswer (pickOf (idxOf []) cue)
 unfolding pickOf idxIn cueAt
 other-cue zero h = absurd (omega arith)
@@ -137,3 +138,24 @@ pub blanks-unread : (text file : List ℕ) (q : Wanted) → All blank text → (
     → (x : Reading) → IsReading text file q x → ⊥
 unfolding cuesOfLines
 blanks-unread text file q h f = no-cue-unread text file q (of-lines []) (blanks-listed text h f) refl
+
+module _ (text : List ℕ) (h : All blank text) (f : text ≡ [] → ⊥) where
+  pub blanks-cueless : (t : ListedText) → IsText text t → cuesOf t ≡ []
+  unfolding cuesOfLines
+  blanks-cueless t k = ap cuesOf (text-unique text t (of-lines []) k (blanks-listed text h f))
+
+  pub blanks-read : (starts : List ℤ) (positions : List ℕ) (r : IdxAnswer) (starts′ : List ℤ) (positions′ : List ℕ)
+      → IdxRead text starts positions r starts′ positions′
+      → (r ≡ record { refused = 0; width = 0; height = 0; «has_palette» = false; palette = replicate 48 0; cues = 0 })
+      × (starts′ ≡ starts) × (positions′ ≡ positions)
+  unfolding cuesOfLines paletteFrom linesHavePalette sizeFrom idxAnswer
+  blanks-read starts positions r starts′ positions′ d =
+      let q : idxWith starts positions text ≡ ok (of-lines []) =
+      room-iff (min (length starts) (length positions)) text (of-lines []) .1 (blanks-listed text h f, omega arith) in
+      (d .answer ∙ ap idxAnswer q, rw q at (d .starts-are), rw q at (d .positions-are))
+
+  pub blanks-picked : (n : ℕ) (r : CueAnswer) → r ≡ cueAnswer (pickOf (idxOf text) n) → r .refused ≡ no-cue
+  unfolding pickOf cueAnswer cuesOfLines cueAt
+  blanks-picked n r d =
+      let q : idxOf text ≡ ok (of-lines []) = text-iff text (of-lines []) .1 (blanks-listed text h f) in
+      ap (λ (a : CueAnswer). a .refused) (d ∙ ap (λ (x : Res ListedText). cueAnswer (pickOf x n)) q)

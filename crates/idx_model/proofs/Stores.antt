@@ -33,16 +33,16 @@ sets-more l i [] b = let z : i + 0 ≡ i = omega arith in rw z
 sets-more l i (x ∷ a) b = let z : i + suc (length a) ≡ suc i + length a = omega arith in rw z (sets-more (set l i x) (suc i) a b)
 
 -- ---- what listed lines store
-abbrev linesStarts : List Said → List ℤ
-linesStarts ls = startsOf (cuesOfLines ls)
+abbrev startsOfLines : List Said → List ℤ
+startsOfLines ls = startsOf (cuesOfLines ls)
 
-abbrev linesPositions : List Said → List ℕ
-linesPositions ls = positionsOf (cuesOfLines ls)
+abbrev positionsOfLines : List Said → List ℕ
+positionsOfLines ls = positionsOf (cuesOfLines ls)
 
 -- ---- what a line adds, as it was read and as it is listed
 record Agree (x : Line) (o : Option Said) : Type 0 where
-  starts : (ls : List Said) → linesStarts (orNone o ls) ≡ lineStarts x ++ linesStarts ls
-  positions : (ls : List Said) → linesPositions (orNone o ls) ≡ linePositions x ++ linesPositions ls
+  starts : (ls : List Said) → startsOfLines (orNone o ls) ≡ lineStarts x ++ startsOfLines ls
+  positions : (ls : List Said) → positionsOfLines (orNone o ls) ≡ linePositions x ++ positionsOfLines ls
   count : length (lineStarts x) ≡ cuesIn o
   same : length (linePositions x) ≡ cuesIn o
   fits : (n a b : ℕ) → roomFor (some (min a b)) n o ≡ true → CueFits x n a b
@@ -68,8 +68,8 @@ agree (line.Cue z k) (some (palette l ts)) e = never (cc)
 agree (line.Cue z k) (some (timestamp l ps fs v)) e =
     let p = ok-injective e in
     record {
-      starts = λ ls. ap (λ (y : ℤ). y ∷ linesStarts ls) (cc);
-      positions = λ ls. ap (λ (y : ℕ). y ∷ linesPositions ls) (cc);
+      starts = λ ls. ap (λ (y : ℤ). y ∷ startsOfLines ls) (cc);
+      positions = λ ls. ap (λ (y : ℕ). y ∷ positionsOfLines ls) (cc);
       count = refl;
       same = refl;
       fits = λ n a b r. let h : n < min a b = ltb-true n (min a b) r in (omega arith, omega arith);
@@ -82,8 +82,8 @@ pub record Filling (text : List ℕ) (starts₀ : List ℤ) (positions₀ : List
   pub positions-long : length positions ≡ length positions₀
   pub rest : List Said
   pub found : linesIn (some (min (length starts₀) (length positions₀))) n (split line-end (0 + i) (drop i text)) ≡ ok rest
-  pub starts-are : sets starts₀ 0 (linesStarts (listed (linesWith starts₀ positions₀ text))) ≡ sets starts n (linesStarts rest)
-  pub positions-are : sets positions₀ 0 (linesPositions (listed (linesWith starts₀ positions₀ text))) ≡ sets positions n (linesPositions rest)
+  pub starts-are : sets starts₀ 0 (startsOfLines (listed (linesWith starts₀ positions₀ text))) ≡ sets starts n (startsOfLines rest)
+  pub positions-are : sets positions₀ 0 (positionsOfLines (listed (linesWith starts₀ positions₀ text))) ≡ sets positions n (positionsOfLines rest)
 
 is-ok : (r : Res (List Said)) → IsOk r → r ≡ ok (listed r)
 is-ok (ok ls) h = refl
@@ -151,22 +151,22 @@ module _ (text : List ℕ) (i k : ℕ) (inside : i ≤ length text) (lead : k �
     next-is : (ps : List Part) (h : Head ps) → n + cuesIn (h .said) ≡ r
     next-is ps h = sym (stored .next ∙ ap (λ (m : ℕ). n + m) (h .agrees .count))
 
-    starts-after : (ps : List Part) (h : Head ps) → sets starts n (linesStarts (so-far .rest)) ≡ sets starts′ r (linesStarts (h .left))
+    starts-after : (ps : List Part) (h : Head ps) → sets starts n (startsOfLines (so-far .rest)) ≡ sets starts′ r (startsOfLines (h .left))
     starts-after ps h =
-        ap (λ (ls : List Said). sets starts n (linesStarts ls)) (sym (h .is-rest))
+        ap (λ (ls : List Said). sets starts n (startsOfLines ls)) (sym (h .is-rest))
         ∙ ap (sets starts n) (h .agrees .starts (h .left))
-        ∙ sets-more starts n (lineStarts x) (linesStarts (h .left))
-        ∙ ap (λ (y : List ℤ). sets y (n + length (lineStarts x)) (linesStarts (h .left))) (sym (stored .starts-are))
-        ∙ ap (λ (m : ℕ). sets starts′ m (linesStarts (h .left))) (sym (stored .next))
+        ∙ sets-more starts n (lineStarts x) (startsOfLines (h .left))
+        ∙ ap (λ (y : List ℤ). sets y (n + length (lineStarts x)) (startsOfLines (h .left))) (sym (stored .starts-are))
+        ∙ ap (λ (m : ℕ). sets starts′ m (startsOfLines (h .left))) (sym (stored .next))
 
-    positions-after : (ps : List Part) (h : Head ps) → sets positions n (linesPositions (so-far .rest)) ≡ sets positions′ r (linesPositions (h .left))
+    positions-after : (ps : List Part) (h : Head ps) → sets positions n (positionsOfLines (so-far .rest)) ≡ sets positions′ r (positionsOfLines (h .left))
     positions-after ps h =
         let q : n + length (linePositions x) ≡ r = ap (λ (m : ℕ). n + m) (h .agrees .same) ∙ next-is ps h in
-        ap (λ (ls : List Said). sets positions n (linesPositions ls)) (sym (h .is-rest))
+        ap (λ (ls : List Said). sets positions n (positionsOfLines ls)) (sym (h .is-rest))
         ∙ ap (sets positions n) (h .agrees .positions (h .left))
-        ∙ sets-more positions n (linePositions x) (linesPositions (h .left))
-        ∙ ap (λ (y : List ℕ). sets y (n + length (linePositions x)) (linesPositions (h .left))) (sym (stored .positions-are))
-        ∙ ap (λ (m : ℕ). sets positions′ m (linesPositions (h .left))) q
+        ∙ sets-more positions n (linePositions x) (positionsOfLines (h .left))
+        ∙ ap (λ (y : List ℕ). sets y (n + length (linePositions x)) (positionsOfLines (h .left))) (sym (stored .positions-are))
+        ∙ ap (λ (m : ℕ). sets positions′ m (positionsOfLines (h .left))) q
 
     pub filling-next : i + k < length text → Filling text starts₀ positions₀ starts′ positions′ r (i + k + 1)
     unfolding room
@@ -188,8 +188,8 @@ module _ (text : List ℕ) (i k : ℕ) (inside : i ≤ length text) (lead : k �
         let d = head [] (last-part line-end text i k inside lead (0 + i) h) in
         let z : [] ≡ d .left = ok-injective (d .left-found) in
         record {
-          starts-are = sym (so-far .starts-are ∙ starts-after [] d ∙ ap (λ (ls : List Said). sets starts′ r (linesStarts ls)) (sym z));
-          positions-are = sym (so-far .positions-are ∙ positions-after [] d ∙ ap (λ (ls : List Said). sets positions′ r (linesPositions ls)) (sym z));
+          starts-are = sym (so-far .starts-are ∙ starts-after [] d ∙ ap (λ (ls : List Said). sets starts′ r (startsOfLines ls)) (sym z));
+          positions-are = sym (so-far .positions-are ∙ positions-after [] d ∙ ap (λ (ls : List Said). sets positions′ r (positionsOfLines ls)) (sym z));
         }
 
 -- ---- one line's cue

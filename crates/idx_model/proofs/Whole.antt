@@ -47,48 +47,53 @@ module _ (text : List ℕ) (starts : List ℤ) (positions : List ℕ) (some-byte
       → idxWith starts positions text ≡ mapRes of-lines x
   found x e = with-bytes (some (min (length starts) (length positions))) text some-byte ∙ ap (mapRes of-lines) e
 
-  pub idx-refused : (n : ℕ) → r ≡ measured.Refused n → (a : IdxAnswer) → a ≡ idxAnswer (refuse n) → IdxRead text starts positions a starts positions
+  pub idx-refused : (n : ℕ) → r ≡ measured.Refused n → (a : IdxAnswer) → a ≡ idxAnswer (refuse n)
+      → IdxRead text starts positions a starts positions
   idx-refused n e a f =
-      let q : idxWith starts positions text ≡ refuse n = found (refuse n) (sym same ∙ measured-refused 0 (textIn (some room) text) r n (told .says) e) in
+      let p : linesWith starts positions text ≡ refuse n = sym same ∙ measured-refused 0 (textIn (some room) text) r n (told .says) e in
+      let q : idxWith starts positions text ≡ refuse n = found (refuse n) p in
       record { answer = f ∙ ap idxAnswer (sym q); starts-are = rw q; positions-are = rw q }
 
   module _ (s : Seen) (e : r ≡ measured.Saw s) where
     lines : (ls : List Said) × (textIn (some room) text ≡ ok ls) × (s ≡ seeAll 0 nothing-seen ls)
     lines = measured-saw 0 (textIn (some room) text) r s (told .says) e
 
-    are : linesWith starts positions text ≡ ok (lines .0)
-    are = sym same ∙ lines .1
+    lines-are : linesWith starts positions text ≡ ok (lines .0)
+    lines-are = sym same ∙ lines .1
 
     pub idx-is-ok : IsOk (linesWith starts positions text)
-    idx-is-ok = subst (λ (x : Res (List Said)). IsOk x) (sym are) tt
+    idx-is-ok = subst (λ (x : Res (List Said)). IsOk x) (sym lines-are) tt
 
     pub idx-accepted : (a : IdxAnswer)
         → ((ls : List Said) (cue : ℕ) → s ≡ seeAll cue nothing-seen ls → now ≡ paletteOfLines ls
         → a ≡ idxAnswer (ok (of-lines ls)))
-        → (starts′ : List ℤ) (positions′ : List ℕ) → CuesStored (linesWith starts positions text) starts positions starts′ positions′
+        → (starts′ : List ℤ) (positions′ : List ℕ)
+        → CuesStored (linesWith starts positions text) starts positions starts′ positions′
         → IdxRead text starts positions a starts′ positions′
     idx-accepted a f starts′ positions′ h =
-        let q : idxWith starts positions text ≡ ok (of-lines (lines .0)) = found (ok (lines .0)) are in
+        let q : idxWith starts positions text ≡ ok (of-lines (lines .0)) = found (ok (lines .0)) lines-are in
         record {
           answer = f (lines .0) 0 (lines .2) (told .palette (lines .0) (lines .1)) ∙ ap idxAnswer (sym q);
           starts-are =
               rw q
-              (h .starts-are ∙ ap (λ (x : Res (List Said)). sets starts 0 (startsOf (cuesOfLines (listed x)))) are);
+              (h .starts-are
+              ∙ ap (λ (x : Res (List Said)). sets starts 0 (startsOf (cuesOfLines (listed x)))) lines-are);
           positions-are =
               rw q
               (h .positions-are
-              ∙ ap (λ (x : Res (List Said)). sets positions 0 (positionsOf (cuesOfLines (listed x)))) are);
+              ∙ ap (λ (x : Res (List Said)). sets positions 0 (positionsOf (cuesOfLines (listed x)))) lines-are);
         }
 
 -- ---- `pick_cue`
 module _ (text : List ℕ) (some-byte : length text ≡ 0 → ⊥) (cue room : ℕ) (large : length text < room)
     (r : Measured) (now : List ℕ) (told : MeasuredAs cue first-palette (textIn (some room) text) r now) where
-  read : (x : Res (List Said)) → textIn (some room) text ≡ x → idxOf text ≡ mapRes of-lines x
-  read x e = sym (text-open text room large) ∙ with-bytes (some room) text some-byte ∙ ap (mapRes of-lines) e
+  idx-is : (x : Res (List Said)) → textIn (some room) text ≡ x → idxOf text ≡ mapRes of-lines x
+  idx-is x e = sym (text-open text room large) ∙ with-bytes (some room) text some-byte ∙ ap (mapRes of-lines) e
 
-  pub cue-refused : (n : ℕ) → r ≡ measured.Refused n → (a : CueAnswer) → a ≡ cueAnswer (refuse n) → a ≡ cueAnswer (pickOf (idxOf text) cue)
+  pub cue-refused : (n : ℕ) → r ≡ measured.Refused n → (a : CueAnswer) → a ≡ cueAnswer (refuse n)
+      → a ≡ cueAnswer (pickOf (idxOf text) cue)
   unfolding pickOf
-  cue-refused n e a f = f ∙ rw (read (refuse n) (measured-refused cue (textIn (some room) text) r n (told .says) e))
+  cue-refused n e a f = f ∙ rw (idx-is (refuse n) (measured-refused cue (textIn (some room) text) r n (told .says) e))
 
   pub cue-picked : (s : Seen) → r ≡ measured.Saw s → (a : CueAnswer)
       → ((ls : List Said) → s ≡ seeAll cue nothing-seen ls → now ≡ paletteOfLines ls
@@ -97,4 +102,4 @@ module _ (text : List ℕ) (some-byte : length text ≡ 0 → ⊥) (cue room : �
   cue-picked s e a f =
       let w = measured-saw cue (textIn (some room) text) r s (told .says) e in
       f (w .0) (w .2) (told .palette (w .0) (w .1))
-      ∙ ap (λ (x : Res ListedText). cueAnswer (pickOf x cue)) (sym (read (ok (w .0)) (w .1)))
+      ∙ ap (λ (x : Res ListedText). cueAnswer (pickOf x cue)) (sym (idx-is (ok (w .0)) (w .1)))

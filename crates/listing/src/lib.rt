@@ -325,7 +325,8 @@ fn counted(cues: usize, line: &mut [u8; 256]) -> Head
 }
 
 // The first line of a title, and its cues in the front of both buffers. `there` says that both files are there; the index is read only
-// where neither is too long. Such a text has at most 65,537 lines, so the buffers hold every cue.
+// where neither is too long. Such a text has at most 65,537 lines, and one cue where it has no bytes, so the buffers
+// hold every cue.
 // Ruled out: the index read before the size of the other file is known; cues of an index that is refused.
 pub fn title_line(
     there: bool,

@@ -10,6 +10,7 @@ use idx_numbers::starts;
 use libc::STDIN_FILENO;
 use libc::STDOUT_FILENO;
 
+// No grey of an index of no bytes.
 const FOUND: u8 = 237;
 
 const FOUND_WORD: u16 = 0xEEEE;
@@ -294,7 +295,7 @@ fn colours(any: usize, palette: &[u8; 48]) {
 
 fn indexed(text: &[u8], starts: &mut [i64], positions: &mut [u64]) {
     let mut palette: [u8; 48] = [FOUND; 48];
-    let mut numbers: [usize; 4] = [0; 4];
+    let mut numbers: [usize; 4] = [77; 4];
     let refusal = vobsub_c::vobsub_parse_idx(text, starts, positions, &mut palette, &mut numbers);
     if answered(refusal) {
         pair(b": size @ A", numbers[0], numbers[1]);
@@ -334,9 +335,9 @@ fn lasts(set: u64, duration: u64) {
 }
 
 fn cue(text: &[u8], n: usize) {
-    let mut start: i64 = 0;
+    let mut start: i64 = FOUND_START;
     let mut palette: [u8; 48] = [FOUND; 48];
-    let mut numbers: [u64; 4] = [0; 4];
+    let mut numbers: [u64; 4] = [FOUND_POSITION; 4];
     form(b", cue @", &[n; 17]);
     let refusal = vobsub_c::vobsub_pick_cue(text, n, &mut start, &mut palette, &mut numbers);
     if answered(refusal) {
@@ -374,8 +375,8 @@ fn painted(
     words: &mut [u16],
     canvas: &mut [u8],
 ) {
-    let mut start: i64 = 0;
-    let mut numbers: [u64; 10] = [0; 10];
+    let mut start: i64 = FOUND_START;
+    let mut numbers: [u64; 10] = [FOUND_POSITION; 10];
     let refusal = vobsub_c::vobsub_decode_cue(
         text,
         file,

@@ -68,7 +68,7 @@ canvas-complete u n m k l e h i j =
     let j′ : 4 * (width (told bs) * height (told bs)) ≤ k = rw z j in
     rw (a .1, le-leb (width (told bs) * height (told bs)) n h′, le-leb (length (bandWords (told bs .bands))) m i′, le-leb (4 * (width (told bs) * height (told bs))) k j′) (a .2)
 
--- the lines, the cue and the unit's form
+-- what is listed of the text, the cue and the unit's form
 record Founded (text file : List ℕ) (q : Wanted) (n : ℕ) (f : Found) : Type 0 where
   text-listed : idxOf text ≡ ok (f .text)
   stream-is : q .stream ≤ top-stream

@@ -23,12 +23,12 @@ use Rattle.vobsub_model.specs.Claim.{Undisturbed}
 use Rattle.vobsub_model.specs.declared.CanvasAnswer.{CanvasAnswer}
 
 module _ (text file other : List ℕ) (q : Wanted) (index : ListedText) (c : Cue) (ps : List Packet)
-    (lines : IsText text index) (cue : cueAt (cuesOf index) (q .cue) ≡ some c)
+    (text-is : IsText text index) (cue : cueAt (cuesOf index) (q .cue) ≡ some c)
     (walk : Walk (wantedId q) file (c .position) [] ps) (alike : Alike (q .stream) file other ps) where
   pub found-same : (n : ℕ) → foundFor text file q n ≡ foundFor text other q n
   unfolding foundFor unitAt
   found-same n =
-      rw (text-iff text index .1 lines, cue)
+      rw (text-iff text index .1 text-is, cue)
       (ap (λ (m : Res Form). check (leb (q .stream) top-stream) bad-stream (mapRes (found index) (withScratch n m)))
       (form-same (q .stream) file other (c .position) ps walk alike))
 

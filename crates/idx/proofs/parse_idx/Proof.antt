@@ -47,7 +47,8 @@ fill-requires c κs =
     let bytes = room .before in
     let start = bytes .before .before .before in
     idx-is-ok (start .args .text .now) (start .args .starts .now) (start .args .positions .now)
-    (bytes .if1 .left) (room .shorter .result) (room .shorter .ensures) (measured .measure .result) _ (measured .measure .ensures) _ (saw .seen .given .1)
+    (bytes .if1 .left) (room .shorter .result) (room .shorter .ensures)
+    (measured .measure .result) _ (measured .measure .ensures) _ (saw .seen .given .1)
 
 accepted-idx-requires : tie.Need-accepted-idx-requires
 accepted-idx-requires c κs = search needs
@@ -61,7 +62,8 @@ returns-2 c =
     let start = bytes .before .before .before in
     idx-claimed
     (idx-refused (start .args .text .now) (start .args .starts .now) (start .args .positions .now)
-    (bytes .if1 .left) (room .shorter .result) (room .shorter .ensures) (measured .measure .result) _ (measured .measure .ensures) _ (refused .number .given .1)
+    (bytes .if1 .left) (room .shorter .result) (room .shorter .ensures)
+    (measured .measure .result) _ (measured .measure .ensures) _ (refused .number .given .1)
     (c .refused-idx .result) (c .refused-idx .ensures))
 
 same-length-3 : tie.Need-same-length-3
@@ -80,7 +82,8 @@ returns-3 c =
     let start = bytes .before .before .before in
     idx-claimed
     (idx-accepted (start .args .text .now) (start .args .starts .now) (start .args .positions .now)
-    (bytes .if1 .left) (room .shorter .result) (room .shorter .ensures) (measured .measure .result) _ (measured .measure .ensures) _ (saw .seen .given .1)
+    (bytes .if1 .left) (room .shorter .result) (room .shorter .ensures)
+    (measured .measure .result) _ (measured .measure .ensures) _ (saw .seen .given .1)
     (c .accepted-idx .result) (c .accepted-idx .ensures) _ _ (filled .fill .ensures))
 
 pub parse-idx-spec : {M : Type 1} → statement M

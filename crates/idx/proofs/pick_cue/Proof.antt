@@ -8,8 +8,8 @@ use Rattle.idx_model.proofs.Whole.{cue-refused, cue-picked}
 use Rattle.idx.proofs.pick_cue.Statement.{statement}
 use Rattle.idx.proofs.pick_cue.Tie as tie
 
-pick-empty-cue-requires : tie.Need-pick-empty-cue-requires
-pick-empty-cue-requires c κs = search needs
+pick-empty-idx-requires : tie.Need-pick-empty-idx-requires
+pick-empty-idx-requires c κs = search needs
 
 returns : tie.Need-returns
 returns c =
@@ -17,7 +17,7 @@ returns c =
     let start = empty .before .before in
     cue-claimed _ _
     (cue-of-none (start .args .text .now) (empty .if1 .taken) (start .args .cue)
-    (c .pick-empty-cue .result) (c .pick-empty-cue .ensures))
+    (c .pick-empty-idx .result) (c .pick-empty-idx .ensures))
 
 measure-requires : tie.Need-measure-requires
 measure-requires c κs = search needs
@@ -42,7 +42,8 @@ returns-2 c =
     let start = bytes .before .before in
     cue-claimed _ _
     (cue-refused (start .args .text .now) (bytes .if1 .left) (start .args .cue) 18446744073709551615
-    (omega (arith, start .good .0 .1)) (measured .measure .result) _ (measured .measure .ensures) _ (refused .number .given .1)
+    (omega (arith, start .good .0 .1))
+    (measured .measure .result) _ (measured .measure .ensures) _ (refused .number .given .1)
     (c .refused-cue .result) (c .refused-cue .ensures))
 
 returns-3 : tie.Need-returns-3
@@ -53,14 +54,15 @@ returns-3 c =
     let start = bytes .before .before in
     cue-claimed _ _
     (cue-picked (start .args .text .now) (bytes .if1 .left) (start .args .cue) 18446744073709551615
-    (omega (arith, start .good .0 .1)) (measured .measure .result) _ (measured .measure .ensures) _ (saw .seen .given .1)
+    (omega (arith, start .good .0 .1))
+    (measured .measure .result) _ (measured .measure .ensures) _ (saw .seen .given .1)
     (c .picked-cue .result) (c .picked-cue .ensures))
 
 pub pick-cue-spec : {M : Type 1} → statement M
 pick-cue-spec =
     tie.close
     (tie.spec
-    pick-empty-cue-requires
+    pick-empty-idx-requires
     returns
     measure-requires
     enum-known-number

@@ -1,9 +1,9 @@
--- `idx::pick_empty_cue` meets its contract: a cue past the only one, and that one. Assumes nothing.
+-- `idx::pick_empty_idx` meets its contract: a cue past the only one, and that one. Assumes nothing.
 use borrow.Author.Needs.{needs}
 use mathlib.Core.Path.{refl, _∙_}
 use Rattle.idx_model.proofs.NoBytes.{other-cue, only-cue}
-use Rattle.idx.proofs.pick_empty_cue.Statement.{statement}
-use Rattle.idx.proofs.pick_empty_cue.Tie as tie
+use Rattle.idx.proofs.pick_empty_idx.Statement.{statement}
+use Rattle.idx.proofs.pick_empty_idx.Tie as tie
 
 refused-cue-requires : tie.Need-refused-cue-requires
 refused-cue-requires c κs = search needs
@@ -19,8 +19,8 @@ returns-2 c =
     only-cue (c .before .before .args .cue) (c .before .if1 .left) _ refl
     (c .grey-palette .result) (c .grey-palette .ensures)
 
-pub pick-empty-cue-spec : {M : Type 1} → statement M
-pick-empty-cue-spec =
+pub pick-empty-idx-spec : {M : Type 1} → statement M
+pick-empty-idx-spec =
     tie.close
     (tie.spec
     refused-cue-requires
