@@ -86,8 +86,9 @@ enum { VOBSUB_PALETTE = 48 };
    starts_len numbers, and its position in the file to the front of positions, which has positions_len numbers; palette has VOBSUB_PALETTE
    bytes, and gets the palette, black where no entry is given; numbers has VOBSUB_INDEX_NUMBERS numbers. palette and numbers are not null, and
    the five regions do not overlap. Of starts and positions as many are written as there are cues; on a refusal (1 to 10) all four are as they
-   were. A text of no bytes, text_len 0, is one cue whose start and position are 0; it gives no size and no palette, and what palette gets is
-   grey: red, green and blue of entry i are 17 * i. No other text is read so: one of blanks alone has no cue, and its palette is black. */
+   were. A text of no bytes, text_len 0, is one cue whose start and position are 0, and so needs a place in starts and in positions (else 10);
+   it gives no size and no palette, and what palette gets is grey: red, green and blue of entry i are 17 * i. No other text is read so: one of
+   blanks alone has no cue, and its palette is black. */
 uint8_t vobsub_parse_idx(const uint8_t *text, size_t text_len,
                          int64_t *starts, size_t starts_len,
                          uint64_t *positions, size_t positions_len,

@@ -1,5 +1,5 @@
--- Every card of the table holds: one computation over those of bytes and one over those of lines, the title of 2 by 2 in
--- three steps, with its index and with one of no bytes, its canvas from its reading, and each card from these.
+-- Every card of the table holds: one computation over those of bytes and one over those of lines, the title of 2 by 2
+-- in three steps, with its index and with one of no bytes, its canvas from its reading, and each card from these.
 -- Assumes nothing.
 use Prim.Native.Nat.{ℕ}
 use mathlib.Core.Path.{_≡_, refl, sym, ap, ap₂, _∙_}

@@ -67,6 +67,7 @@ use Rattle.vobsub_model.specs.Answers.{CuePainted}
 use Rattle.vobsub_model.specs.Claim.{Exactly, Undisturbed}
 use Rattle.vobsub_model.proofs.Claim as vobsub-proof
 use Rattle.vobsub_model.proofs.Streams as vobsub-streams
+use Rattle.vobsub_model.proofs.NoBytes.{painted-grey}
 use Rattle.listing_model.specs.Title.{formFor, cueLine}
 use Rattle.listing_model.specs.Answers as listing
 use Rattle.listing_model.proofs.Claim as listing-proof
@@ -160,9 +161,9 @@ one-text = text-unique
 
 -- An index of no bytes (`parse_idx`, `pick_cue`, `decode_cue`) is listed in one way, as one cue in greys. It needs a
 -- place in both buffers, and is stored in the first of each; it has cue 0 and no other; its readings are those of the
--- units at the file's front, in greys. Entry i of the 16 is 17 times i in red, green and blue. No other text is listed
--- so: one of blanks alone has no cue, so no reading, and needs no place, and a text with a byte in which no line gives
--- a palette is black.
+-- units at the file's front, in greys, and so is every canvas. Entry i of the 16 is 17 times i in red, green and blue.
+-- No other text is listed so: one of blanks alone has no cue, so no reading, and needs no place, and a text with a byte
+-- in which no line gives a palette is black.
 pub an-empty-index : (t : ListedText) → IsText [] t ↔ (t ≡ no-bytes greys)
 an-empty-index = no-bytes-listed
 
@@ -207,6 +208,13 @@ pub every-front-unit : (file : List ℕ) (q : Wanted) (m : Form) (u : ListedUnit
     → q .cue ≡ 0 → q .stream ≤ top-stream → 0 < length file → IsForm (wantedId q) file 0 m → IsUnit (unitOf m) u
     → IsReading [] file q (record { text = no-bytes greys; cue = 0; form = m; unit = u })
 every-front-unit = no-bytes-read
+
+pub an-empty-index-painted : (file : List ℕ) (q : Wanted) (b : Lent) (r : CanvasAnswer) (b′ : Lent)
+    → CuePainted [] file q b r b′ → (s : Shown) → r ≡ canvas-answer.Paints s
+    → (q .cue ≡ 0) × (s .start ≡ pos 0) × (s .«has_duration» ≡ false)
+    × ((m : Form) × (u : ListedUnit) × IsForm (wantedId q) file 0 m × IsUnit (unitOf m) u
+    × (b′ .canvas ≡ sets (b .canvas) 0 (unitCanvas greys u)))
+an-empty-index-painted = painted-grey
 
 pub each-grey : (length greys ≡ 3 * 16) × ((i c : ℕ) → i < 16 → c < 3 → getD greys (3 * i + c) 0 ≡ 17 * i)
 each-grey = (grey-entries .1, grey-rule)

@@ -65,7 +65,8 @@ unfoldable cards : List Card
 cards =
     -- what a second, shorter palette line leaves; whether there is a palette; the last size; positions by number
     card (take 12 (paletteOfLines lines)) (10 ∷ 11 ∷ 12 ∷ 4 ∷ 5 ∷ 6 ∷ 7 ∷ 8 ∷ 9 ∷ 0 ∷ 0 ∷ 0 ∷ [])
-    ∷ card (map (λ (ls : List Said). cond (linesHavePalette ls) 1 0) (lines ∷ (coloured [] ∷ []) ∷ [] ∷ [])) (1 ∷ 0 ∷ 0 ∷ [])
+    ∷ card (map (λ (ls : List Said). cond (linesHavePalette ls) 1 0) (lines ∷ (coloured [] ∷ []) ∷ [] ∷ []))
+    (1 ∷ 0 ∷ 0 ∷ [])
     ∷ card (sizeOfLines lines .width ∷ sizeOfLines lines .height ∷ sizeOfLines [] .width ∷ sizeOfLines [] .height ∷ []) (720 ∷ 576 ∷ 0 ∷ 0 ∷ [])
     ∷ card (position (cueAt (cuesOfLines lines) 0)) (5 ∷ [])
     ∷ card (position (cueAt (cuesOfLines lines) 1)) (6 ∷ [])

@@ -42,6 +42,7 @@ no-duration = refl
 pub no-line :
     (displaySize (no-bytes greys) ≡ sizeIs 0 0)
     × (hasPalette (no-bytes greys) ≡ false) × (paletteOf (no-bytes greys) ≡ greys)
+unfolding greysFrom
 no-line = (refl, refl, refl)
 
 -- red, green and blue of entry i are 17 times i

@@ -201,6 +201,10 @@ pub alone-shown :
 unfolding shown cueAt durationOf codesIn clippedRow clippedIn overshoots paints told commandsOf commandsIn firstDelay lastDelay lastNumbers stands allBands
 alone-shown = refl
 
+alone-map : mapOf alone ≡ 1 ∷ 1 ∷ 2 ∷ 3 ∷ []
+unfolding mapOf indexMap rowPixels paints told commandsOf commandsIn firstDelay lastDelay lastNumbers stands allBands
+alone-map = refl
+
 pub alone-words : wordsOf alone ≡ []
 unfolding wordsOf bandWords told commandsOf commandsIn firstDelay lastDelay lastNumbers stands allBands
 alone-words = refl
@@ -266,7 +270,13 @@ packed-unit =
     }
 
 abbrev pub packed : Reading
-packed = record { text = of-lines (colour-said ∷ said 23 ∷ []); cue = 0; form = packets (packed-packet ∷ []); unit = packed-unit }
+packed =
+    record {
+      text = of-lines (colour-said ∷ said 23 ∷ []);
+      cue = 0;
+      form = packets (packed-packet ∷ []);
+      unit = packed-unit;
+    }
 
 -- six hexadecimal digits with no `0x` in front
 token-reads : (b c v : ℕ) (s : List ℕ) → (c ≡ 120 → ⊥) → every (isDigit 16) (b ∷ c ∷ s) ≡ true → v ≡ numeral 16 0 (b ∷ c ∷ s) → v ≤ top-token → Hex top-token (b ∷ c ∷ s) v

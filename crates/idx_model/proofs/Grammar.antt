@@ -92,7 +92,8 @@ lines-one room (p ∷ ps) k (l ∷ ls) h r = go (λ j ms. lines-one room ps j ms
     said o ms e s i =
         rw (trim-one p (h .0) (h .1), line-one (h .0) o s, room-yes room k o ms (subst (λ (x : List Said). Roomy room (k + length (cuesOfLines x))) (sym e) r), i) (ap ok e)
 
-    left : (o : Option Said) (ms : List Said) → orNone o ms ≡ l ∷ ls → Roomy room (k + cuesIn o + length (cuesOfLines ms))
+    left : (o : Option Said) (ms : List Said) → orNone o ms ≡ l ∷ ls
+        → Roomy room (k + cuesIn o + length (cuesOfLines ms))
     left o ms e = sum-room room k (cuesIn o) (length (cuesOfLines ms)) (length (cuesOfLines (orNone o ms))) (count o ms) (subst (λ (x : List Said). Roomy room (k + length (cuesOfLines x))) (sym e) r)
 
     go : ((j : ℕ) (ms : List Said) → LinesListed ps ms → Roomy room (j + length (cuesOfLines ms)) → linesIn room j ps ≡ ok ms)

@@ -69,7 +69,8 @@ or-none : (a : Bool) → a ≡ a || false
 or-none true = refl
 or-none false = refl
 
-see-palette : (cue : ℕ) (s : Seen) (ls : List Said) → seeAll cue s ls .«has_palette» ≡ s .«has_palette» || linesHavePalette ls
+see-palette : (cue : ℕ) (s : Seen) (ls : List Said)
+    → seeAll cue s ls .«has_palette» ≡ s .«has_palette» || linesHavePalette ls
 unfolding seeAll linesHavePalette
 see-palette cue s [] = or-none (s .«has_palette»)
 see-palette cue s (size l w h ∷ ls) = see-palette cue _ ls
@@ -198,7 +199,8 @@ module _ (cue : ℕ) (ls : List Said) (seen : Seen) (all : seen ≡ seeAll cue n
       let c = cue-in (cuesOfLines ls) cue (omega (arith, cues-are)) in
       let d = cue-in (cuesOfLines ls) (cue + 1) k in
       let s : t ≡ clip (d .0 .start -ℤ c .0 .start) = f ∙ ap (λ (x : ℤ). clip (x -ℤ seen .start)) (next-is (d .0) (d .1)) ∙ ap (λ (x : ℤ). clip (d .0 .start -ℤ x)) (start-is (c .0) (c .1)) in
-      rw (c .1, next-duration (cuesOfLines ls) cue (c .0) (d .0) (c .1) (ap (cueAt (cuesOfLines ls)) (sym (add-one cue)) ∙ d .1))
+      let e = ap (cueAt (cuesOfLines ls)) (sym (add-one cue)) ∙ d .1 in
+      rw (c .1, next-duration (cuesOfLines ls) cue (c .0) (d .0) (c .1) e)
       (λ i. record {
         refused = 0;
         start = (g ∙ start-is (c .0) (c .1)) i;

@@ -100,7 +100,8 @@ module _ (cs : List Cue) (f : List ℕ) (n : ℕ) where
       none-given text index t e m (ok s) q = let y = shown-reading text index t e s q in absurd (m (y .0) (y .1))
       none-given text index t e m (refuse k) q = (k, w .stored ∙ ap (λ (s : Res Shown). sets l 0 (lineOf n s)) q)
 
-      given : (text : List ℕ) (index : ListedText) → IsText text index → cuesOf index ≡ cs → (o : Res Shown) → shownFor cs f n ≡ o
+      given : (text : List ℕ) (index : ListedText) → IsText text index → cuesOf index ≡ cs
+          → (o : Res Shown) → shownFor cs f n ≡ o
           → IsOk o → (x : Reading) × IsReading text f (wanted n list-stream) x
       given text index t e (ok s) q y = shown-reading text index t e s q
       given text index t e (refuse k) q y = absurd y

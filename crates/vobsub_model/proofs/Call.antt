@@ -182,7 +182,8 @@ module _ (text file : List ℕ) (cue stream : ℕ) (s px ws cv : List ℕ) where
             maps (ok l) = refl
             maps (refuse n) = refl
 
-            bands : (x : Res ListedUnit) → unitBands x ≡ bandsOf (mapRes (reading (wanted cue stream) (found index m)) x)
+            bands : (x : Res ListedUnit)
+                → unitBands x ≡ bandsOf (mapRes (reading (wanted cue stream) (found index m)) x)
             bands (ok l) = refl
             bands (refuse n) = refl
 

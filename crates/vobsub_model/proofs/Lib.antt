@@ -6,3 +6,4 @@ pub mod Call
 pub mod Refusals
 pub mod Cards
 pub mod Streams
+pub mod NoBytes

@@ -5,7 +5,7 @@
 // 7 idx, 8 cue, 9 canvas), the refusal, a word with the number of bytes, four words with the request's numbers (of packets the position, the stream
 // and the scratch; a canvas has its stream in its bytes), and four bytes with the sum over the answer.
 //
-// Only requests on which both sides agree (or that a rule covers) go into the list, so many for each answer; those of 7, 8 and 9 all differ.
+// Only requests on which both sides agree (or that a rule covers) go into the list, so many for each answer; no two of 7, 8 or 9 are the same.
 use oracle::CLIPPED;
 use oracle::class::{BYTE, Class, NUMBER, Request, START, Sum, WORD, World};
 use oracle::classes::{self, canvas};
