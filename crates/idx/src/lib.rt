@@ -12,19 +12,19 @@ use outcome::NO_CUE;
 use outcome::SHORT_CUES;
 ghost use mathlib.Core.Path.{_≡_};
 ghost use mathlib.Core.Option.{some};
-ghost use mathlib.Core.List.{List, []};
+ghost use mathlib.Core.List.{[]};
 ghost use Prim.Native.Nat.{ℕ, _<_, _+_, _^_, min};
 ghost use lib.IntN.{_-ℤ_};
 ghost use lib.ListN.{length};
 ghost use Rattle.idx_model.specs.Claim.{IdxSays, CueSays};
 ghost use Rattle.outcome.specs.Outcome.{ok, refuse, IsOk};
 ghost use Rattle.grammar.specs.IndexParts.{line-end};
-ghost use Rattle.grammar.specs.Index.{Said, greys, of-lines};
-ghost use Rattle.grammar.specs.IndexCues.{paletteOfLines, clip};
+ghost use Rattle.grammar.specs.Index.{ListedText, greys};
+ghost use Rattle.grammar.specs.IndexCues.{paletteOf, clip};
 ghost use Rattle.idx_numbers_model.specs.Parts.{all, split};
 ghost use Rattle.idx_lines_model.specs.Answers.{lineSays};
-ghost use Rattle.idx_model.specs.Text.{lowByte, linesIn, textIn, idxOf};
-ghost use Rattle.idx_model.specs.Answers.{nothing-seen, seeSize, seePalette, seeCue, seeAll, seeLine, MeasuredAs, CueFits, CueStored, CuesStored, linesWith, idxAnswer, IdxRead, pickOf, cueAnswer};
+ghost use Rattle.idx_model.specs.Text.{lowByte, linesIn, textIn, idxIn, idxOf};
+ghost use Rattle.idx_model.specs.Answers.{seeSize, seePalette, seeCue, seeLine, MeasuredAs, seenOf, IdxMeasuredAs, CueFits, CueStored, CuesStored, linesWith, idxWith, idxAnswer, IdxStored, IdxRead, pickOf, cueAnswer};
 
 // The byte that ends a line.
 const LINE_END: u8 = 10;
@@ -200,6 +200,43 @@ fn measure(text: &[u8], room: usize, cue: usize, palette: &mut [u8; 48]) -> Meas
     measure_lines(text, room, cue, palette)
 }
 
+// The constant, held to its rule by the contract.
+fn grey_palette() -> [u8; 48]
+    ensures { λ r. ⌜ r ≡ greys ⌝ }
+{
+    GREYS
+}
+
+// A text of no bytes: one cue, in greys.
+fn measure_empty(room: usize, palette: &mut [u8; 48]) -> Measured
+    ensures { λ r. ⌜ ((cue : ℕ) → IdxMeasuredAs cue (now (palette .entry)) (idxIn (some room) []) r (now (palette .exit))) ⌝ }
+{
+    if room == 0 {
+        return Measured::Refused(SHORT_CUES);
+    }
+    let greys = grey_palette();
+    *palette = greys;
+    Measured::Saw(Seen {
+        cues: 1,
+        width: 0,
+        height: 0,
+        has_palette: false,
+        start: 0,
+        position: 0,
+        next: 0,
+    })
+}
+
+// The text, with a byte or without. It gives what lines give in either case, so that both have one way to the answers.
+fn measure_idx(text: &[u8], room: usize, cue: usize, palette: &mut [u8; 48]) -> Measured
+    ensures { λ r. ⌜ IdxMeasuredAs cue (now (palette .entry)) (idxIn (some room) (now (text .entry))) r (now (palette .exit)) ⌝ }
+{
+    if text.len() == 0 {
+        return measure_empty(room, palette);
+    }
+    measure(text, room, cue, palette)
+}
+
 fn shorter(a: usize, b: usize) -> usize
     ensures { λ r. ⌜ r ≡ min a b ⌝ }
 {
@@ -247,6 +284,19 @@ fn fill(text: &[u8], starts: &mut [i64], positions: &mut [u64])
     }
 }
 
+// The cues of a text that was measured, with a byte or without.
+fn fill_idx(text: &[u8], starts: &mut [i64], positions: &mut [u64])
+    requires { ⌜ IsOk (idxWith (now starts) (now positions) (now text)) ⌝ }
+    ensures { λ r. ⌜ IdxStored (now (text .entry)) (now (starts .entry)) (now (positions .entry)) (now (starts .exit)) (now (positions .exit)) ⌝ }
+{
+    if text.len() == 0 {
+        starts[0] = 0;
+        positions[0] = 0;
+        return;
+    }
+    fill(text, starts, positions);
+}
+
 fn refused_idx(number: u8) -> IdxAnswer
     ensures { λ r. ⌜ r ≡ idxAnswer (refuse number) ⌝ }
 {
@@ -261,7 +311,7 @@ fn refused_idx(number: u8) -> IdxAnswer
 }
 
 fn accepted_idx(seen: Seen, palette: [u8; 48]) -> IdxAnswer
-    ensures { λ r. ⌜ ((ls : List Said) (cue : ℕ) → seen ≡ seeAll cue nothing-seen ls → palette ≡ paletteOfLines ls → r ≡ idxAnswer (ok (of-lines ls))) ⌝ }
+    ensures { λ r. ⌜ ((t : ListedText) (cue : ℕ) → seen ≡ seenOf cue t → palette ≡ paletteOf t → r ≡ idxAnswer (ok t)) ⌝ }
 {
     IdxAnswer {
         refused: 0,
@@ -273,34 +323,6 @@ fn accepted_idx(seen: Seen, palette: [u8; 48]) -> IdxAnswer
     }
 }
 
-// The constant, held to its rule by the contract.
-fn grey_palette() -> [u8; 48]
-    ensures { λ r. ⌜ r ≡ greys ⌝ }
-{
-    GREYS
-}
-
-// The one cue of a text of no bytes, with its start and its position, both 0, stored.
-fn parse_empty_idx(starts: &mut [i64], positions: &mut [u64]) -> IdxAnswer
-    ensures { λ r. ⌜ IdxRead [] (now (starts .entry)) (now (positions .entry)) r (now (starts .exit)) (now (positions .exit)) ⌝ }
-{
-    let room = shorter(starts.len(), positions.len());
-    if room == 0 {
-        return refused_idx(SHORT_CUES);
-    }
-    starts[0] = 0;
-    positions[0] = 0;
-    let palette = grey_palette();
-    IdxAnswer {
-        refused: 0,
-        width: 0,
-        height: 0,
-        has_palette: false,
-        palette,
-        cues: 1,
-    }
-}
-
 // Size, palette and cues of a text: start and position of each cue go to the front of the lent buffers. A cue beyond the shorter one is
 // refused, in turn with the other faults of its line and of the lines before it; on a refusal both buffers are as found. A text of no
 // bytes is one cue, in greys.
@@ -308,15 +330,12 @@ fn parse_empty_idx(starts: &mut [i64], positions: &mut [u64]) -> IdxAnswer
 pub fn parse_idx(text: &[u8], starts: &mut [i64], positions: &mut [u64]) -> IdxAnswer
     ensures { λ r. ⌜ IdxRead (now (text .entry)) (now (starts .entry)) (now (positions .entry)) r (now (starts .exit)) (now (positions .exit)) × IdxSays (now (text .entry)) (now (starts .entry)) (now (positions .entry)) r (now (starts .exit)) (now (positions .exit)) ⌝ }
 {
-    if text.len() == 0 {
-        return parse_empty_idx(starts, positions);
-    }
     let room = shorter(starts.len(), positions.len());
     let mut palette = [0u8; 48];
-    match measure(text, room, 0, &mut palette) {
+    match measure_idx(text, room, 0, &mut palette) {
         Measured::Refused(number) => refused_idx(number),
         Measured::Saw(seen) => {
-            fill(text, starts, positions);
+            fill_idx(text, starts, positions);
             accepted_idx(seen, palette)
         }
     }
@@ -354,7 +373,7 @@ pub fn duration_of(start: i64, next: i64) -> u64
 }
 
 fn picked_cue(seen: Seen, cue: usize, palette: [u8; 48]) -> CueAnswer
-    ensures { λ r. ⌜ ((ls : List Said) → seen ≡ seeAll cue nothing-seen ls → palette ≡ paletteOfLines ls → r ≡ cueAnswer (pickOf (ok (of-lines ls)) cue)) ⌝ }
+    ensures { λ r. ⌜ ((t : ListedText) → seen ≡ seenOf cue t → palette ≡ paletteOf t → r ≡ cueAnswer (pickOf (ok t) cue)) ⌝ }
 {
     let n = seen.cues;
     if cue >= n {
@@ -385,35 +404,13 @@ fn picked_cue(seen: Seen, cue: usize, palette: [u8; 48]) -> CueAnswer
     }
 }
 
-// Cue 0 of a text of no bytes, which has no other.
-fn pick_empty_idx(cue: usize) -> CueAnswer
-    ensures { λ r. ⌜ r ≡ cueAnswer (pickOf (idxOf []) cue) ⌝ }
-{
-    if cue > 0 {
-        return refused_cue(NO_CUE);
-    }
-    let palette = grey_palette();
-    CueAnswer {
-        refused: 0,
-        start: 0,
-        position: 0,
-        has_duration: false,
-        duration: 0,
-        has_palette: false,
-        palette,
-    }
-}
-
 // One cue of a text, without cue buffers: every line is checked all the same. A text of no bytes has cue 0, in greys.
 // Ruled out: a text with a bad later line accepted, and a duration below 0.
 pub fn pick_cue(text: &[u8], cue: usize) -> CueAnswer
     ensures { λ r. ⌜ (r ≡ cueAnswer (pickOf (idxOf (now (text .entry))) cue)) × CueSays (now (text .entry)) cue r ⌝ }
 {
-    if text.len() == 0 {
-        return pick_empty_idx(cue);
-    }
     let mut palette = [0u8; 48];
-    match measure(text, 18446744073709551615, cue, &mut palette) {
+    match measure_idx(text, 18446744073709551615, cue, &mut palette) {
         Measured::Refused(number) => refused_cue(number),
         Measured::Saw(seen) => picked_cue(seen, cue, palette),
     }

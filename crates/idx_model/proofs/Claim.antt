@@ -44,8 +44,8 @@ module _ (text : List ℕ) (starts : List ℤ) (positions : List ℕ) (r : IdxAn
         coloured = ap (λ (a : IdxAnswer). a .«has_palette») q;
         palette = ap (λ (a : IdxAnswer). a .palette) q;
         count = ap (λ (a : IdxAnswer). a .cues) q;
-        starts-are = h .starts-are ∙ ap (λ (x : Res ListedText). sets starts 0 (startsOf (listedBy x cuesOf))) e;
-        positions-are = h .positions-are ∙ ap (λ (x : Res ListedText). sets positions 0 (positionsOf (listedBy x cuesOf))) e;
+        starts-are = h .stored .starts-are ∙ ap (λ (x : Res ListedText). sets starts 0 (startsOf (listedBy x cuesOf))) e;
+        positions-are = h .stored .positions-are ∙ ap (λ (x : Res ListedText). sets positions 0 (positionsOf (listedBy x cuesOf))) e;
       }
 
   accepted : (t : ListedText) → idxWith starts positions text ≡ ok t → r .refused ≡ 0
@@ -56,8 +56,8 @@ module _ (text : List ℕ) (starts : List ℤ) (positions : List ℕ) (r : IdxAn
       → (starts′ ≡ starts) × (positions′ ≡ positions)
   left (ok t) e f = absurd (f (accepted t e))
   left (refuse n) e f = (
-    h .starts-are ∙ ap (λ (x : Res ListedText). sets starts 0 (startsOf (listedBy x cuesOf))) e,
-    h .positions-are ∙ ap (λ (x : Res ListedText). sets positions 0 (positionsOf (listedBy x cuesOf))) e,
+    h .stored .starts-are ∙ ap (λ (x : Res ListedText). sets starts 0 (startsOf (listedBy x cuesOf))) e,
+    h .stored .positions-are ∙ ap (λ (x : Res ListedText). sets positions 0 (positionsOf (listedBy x cuesOf))) e,
   )
 
   pub idx-claim : IdxSays text starts positions r starts′ positions′

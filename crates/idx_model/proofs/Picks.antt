@@ -14,14 +14,14 @@ use borrow.Author.Tests.{eq-eqb, ne-eqb, lt-ltb}
 use Rattle.outcome.specs.Outcome.{Res, ok, refuse, check, andThen, no-cue, short-cues}
 use Rattle.grammar.specs.Parts.{Part}
 use Rattle.grammar.specs.IndexParts.{line-end}
-use Rattle.grammar.specs.Index.{Said, size, palette, timestamp, of-lines}
-use Rattle.grammar.specs.IndexCues.{Cue, cuesOfLines, cueAt, paletteOfLines, some-token, linesHavePalette, sizeFrom, sizeOfLines, durationOf, clip}
+use Rattle.grammar.specs.Index.{Said, size, palette, timestamp, ListedText, of-lines, no-bytes}
+use Rattle.grammar.specs.IndexCues.{Cue, cuesOfLines, cuesOf, cueAt, paletteOf, some-token, linesHavePalette, hasPalette, sizeFrom, displaySize, durationOf, clip}
 use Rattle.grammar.specs.IndexCues as cues
 use Rattle.idx_numbers_model.specs.Parts.{part, push, all, trim, split}
 use Rattle.idx_numbers_model.proofs.Grammar.{never}
 use Rattle.idx_lines_model.specs.Lines.{lineOf}
 use Rattle.idx_model.specs.Text.{orNone, cuesIn, roomFor, linesIn, textIn, idxIn, idxOf}
-use Rattle.idx_model.specs.Answers.{nothing-seen, seeAll, idxAnswer, pickOf, cueAnswer}
+use Rattle.idx_model.specs.Answers.{nothing-seen, seeAll, seenOf, idxAnswer, pickOf, cueAnswer}
 use Rattle.idx_model.specs.declared.Seen.{Seen}
 
 -- ---- of cue k, from cue n on, d before it was met
@@ -129,18 +129,59 @@ next-duration (x ∷ y ∷ cs) zero c d e f =
     rw (p, q)
 next-duration (x ∷ y ∷ cs) (suc n) c d e f = next-duration (y ∷ cs) n c d e f
 
+-- ---- the fields of what was seen of a listed text
+either-way : {A : Type 0} (b : Bool) (x : A) → x ≡ cond b x x
+either-way true x = refl
+either-way false x = refl
+
+seen-cues : (cue : ℕ) (t : ListedText) → seenOf cue t .cues ≡ length (cuesOf t)
+seen-cues cue (of-lines ls) = see-cues cue nothing-seen ls ∙ zero-add (length (cuesOfLines ls))
+seen-cues cue (no-bytes p) = refl
+
+seen-palette : (cue : ℕ) (t : ListedText) → seenOf cue t .«has_palette» ≡ hasPalette t
+seen-palette cue (of-lines ls) = see-palette cue nothing-seen ls
+seen-palette cue (no-bytes p) = refl
+
+seen-size : (cue : ℕ) (t : ListedText) → cues.sizeIs (seenOf cue t .width) (seenOf cue t .height) ≡ displaySize t
+seen-size cue (of-lines ls) = see-size cue nothing-seen ls
+seen-size cue (no-bytes p) = refl
+
+seen-start : (cue : ℕ) (t : ListedText) → seenOf cue t .start ≡ pickFrom (λ c. c .start) 0 cue (pos 0) (cuesOf t)
+unfolding pickFrom
+seen-start cue (of-lines ls) = see-start cue nothing-seen ls
+seen-start cue (no-bytes p) = either-way (eqb 0 cue) (pos 0)
+
+seen-position : (cue : ℕ) (t : ListedText) → seenOf cue t .position ≡ pickFrom (λ c. c .position) 0 cue 0 (cuesOf t)
+unfolding pickFrom
+seen-position cue (of-lines ls) = see-position cue nothing-seen ls
+seen-position cue (no-bytes p) = either-way (eqb 0 cue) 0
+
+seen-next : (cue : ℕ) (t : ListedText) → seenOf cue t .next ≡ pickFrom (λ c. c .start) 0 (cue + 1) (pos 0) (cuesOf t)
+unfolding pickFrom
+seen-next cue (of-lines ls) = see-next cue nothing-seen ls
+seen-next cue (no-bytes p) = either-way (eqb 0 (cue + 1)) (pos 0)
+
 -- ---- the answers
-module _ (cue : ℕ) (ls : List Said) (seen : Seen) (all : seen ≡ seeAll cue nothing-seen ls) (p : List ℕ) (hues : p ≡ paletteOfLines ls) where
-  cues-are : seen .cues ≡ length (cuesOfLines ls)
-  cues-are = ap (λ (s : Seen). s .cues) all ∙ see-cues cue nothing-seen ls ∙ zero-add (length (cuesOfLines ls))
+module _ (cue : ℕ) (t : ListedText) (seen : Seen) (all : seen ≡ seenOf cue t) (p : List ℕ) (hues : p ≡ paletteOf t) where
+  cues-are : seen .cues ≡ length (cuesOf t)
+  cues-are = ap (λ (s : Seen). s .cues) all ∙ seen-cues cue t
 
-  coloured-is : seen .«has_palette» ≡ linesHavePalette ls
-  coloured-is = ap (λ (s : Seen). s .«has_palette») all ∙ see-palette cue nothing-seen ls
+  coloured-is : seen .«has_palette» ≡ hasPalette t
+  coloured-is = ap (λ (s : Seen). s .«has_palette») all ∙ seen-palette cue t
 
-  size-is : cues.sizeIs (seen .width) (seen .height) ≡ sizeOfLines ls
-  size-is = ap (λ (s : Seen). cues.sizeIs (s .width) (s .height)) all ∙ see-size cue nothing-seen ls
+  size-is : cues.sizeIs (seen .width) (seen .height) ≡ displaySize t
+  size-is = ap (λ (s : Seen). cues.sizeIs (s .width) (s .height)) all ∙ seen-size cue t
 
-  pub idx-answer : record { refused = 0; width = seen .width; height = seen .height; «has_palette» = seen .«has_palette»; palette = p; cues = seen .cues } ≡ idxAnswer (ok (of-lines ls))
+  pub idx-answer :
+      record {
+        refused = 0;
+        width = seen .width;
+        height = seen .height;
+        «has_palette» = seen .«has_palette»;
+        palette = p;
+        cues = seen .cues;
+      }
+      ≡ idxAnswer (ok t)
   unfolding idxAnswer
   idx-answer = λ i. record {
     refused = 0;
@@ -151,35 +192,43 @@ module _ (cue : ℕ) (ls : List Said) (seen : Seen) (all : seen ≡ seeAll cue n
     cues = cues-are i;
   }
 
-  pub pick-none : seen .cues ≤ cue → cueAnswer (refuse no-cue) ≡ cueAnswer (pickOf (ok (of-lines ls)) cue)
+  pub pick-none : seen .cues ≤ cue → cueAnswer (refuse no-cue) ≡ cueAnswer (pickOf (ok t) cue)
   unfolding pickOf
-  pick-none h = rw (cue-out (cuesOfLines ls) cue (omega (arith, cues-are)))
+  pick-none h = rw (cue-out (cuesOf t) cue (omega (arith, cues-are)))
 
-  start-is : (c : Cue) → cueAt (cuesOfLines ls) cue ≡ some c → seen .start ≡ c .start
+  start-is : (c : Cue) → cueAt (cuesOf t) cue ≡ some c → seen .start ≡ c .start
   start-is c e =
-      ap (λ (s : Seen). s .start) all ∙ see-start cue nothing-seen ls
-      ∙ ap (λ (k : ℕ). pickFrom (λ x. x .start) 0 k (pos 0) (cuesOfLines ls)) (sym (zero-add cue))
-      ∙ pick-at (λ x. x .start) (cuesOfLines ls) 0 cue (pos 0) c e
+      ap (λ (s : Seen). s .start) all ∙ seen-start cue t
+      ∙ ap (λ (k : ℕ). pickFrom (λ x. x .start) 0 k (pos 0) (cuesOf t)) (sym (zero-add cue))
+      ∙ pick-at (λ x. x .start) (cuesOf t) 0 cue (pos 0) c e
 
-  position-is : (c : Cue) → cueAt (cuesOfLines ls) cue ≡ some c → seen .position ≡ c .position
+  position-is : (c : Cue) → cueAt (cuesOf t) cue ≡ some c → seen .position ≡ c .position
   position-is c e =
-      ap (λ (s : Seen). s .position) all ∙ see-position cue nothing-seen ls
-      ∙ ap (λ (k : ℕ). pickFrom (λ x. x .position) 0 k 0 (cuesOfLines ls)) (sym (zero-add cue))
-      ∙ pick-at (λ x. x .position) (cuesOfLines ls) 0 cue 0 c e
+      ap (λ (s : Seen). s .position) all ∙ seen-position cue t
+      ∙ ap (λ (k : ℕ). pickFrom (λ x. x .position) 0 k 0 (cuesOf t)) (sym (zero-add cue))
+      ∙ pick-at (λ x. x .position) (cuesOf t) 0 cue 0 c e
 
-  next-is : (d : Cue) → cueAt (cuesOfLines ls) (cue + 1) ≡ some d → seen .next ≡ d .start
+  next-is : (d : Cue) → cueAt (cuesOf t) (cue + 1) ≡ some d → seen .next ≡ d .start
   next-is d e =
-      ap (λ (s : Seen). s .next) all ∙ see-next cue nothing-seen ls
-      ∙ ap (λ (k : ℕ). pickFrom (λ x. x .start) 0 k (pos 0) (cuesOfLines ls)) (sym (zero-add (cue + 1)))
-      ∙ pick-at (λ x. x .start) (cuesOfLines ls) 0 (cue + 1) (pos 0) d e
+      ap (λ (s : Seen). s .next) all ∙ seen-next cue t
+      ∙ ap (λ (k : ℕ). pickFrom (λ x. x .start) 0 k (pos 0) (cuesOf t)) (sym (zero-add (cue + 1)))
+      ∙ pick-at (λ x. x .start) (cuesOf t) 0 (cue + 1) (pos 0) d e
 
   pub pick-last : cue < seen .cues → seen .cues - cue ≡ 1 → (y : ℤ) → y ≡ seen .start
-      → record { refused = 0; start = y; position = seen .position; «has_duration» = false; duration = 0; «has_palette» = seen .«has_palette»; palette = p }
-      ≡ cueAnswer (pickOf (ok (of-lines ls)) cue)
+      → record {
+        refused = 0;
+        start = y;
+        position = seen .position;
+        «has_duration» = false;
+        duration = 0;
+        «has_palette» = seen .«has_palette»;
+        palette = p;
+      }
+      ≡ cueAnswer (pickOf (ok t) cue)
   unfolding pickOf cueAnswer
   pick-last h l y g =
-      let c = cue-in (cuesOfLines ls) cue (omega (arith, cues-are)) in
-      rw (c .1, last-duration (cuesOfLines ls) cue (omega (arith, cues-are)))
+      let c = cue-in (cuesOf t) cue (omega (arith, cues-are)) in
+      rw (c .1, last-duration (cuesOf t) cue (omega (arith, cues-are)))
       (λ i. record {
         refused = 0;
         start = (g ∙ start-is (c .0) (c .1)) i;
@@ -190,17 +239,28 @@ module _ (cue : ℕ) (ls : List Said) (seen : Seen) (all : seen ≡ seeAll cue n
         palette = hues i;
       })
 
-  pub pick-next : cue < seen .cues → (seen .cues - cue ≡ 1 → ⊥) → (y : ℤ) → y ≡ seen .start → (t : ℕ) → t ≡ clip (seen .next -ℤ seen .start)
-      → record { refused = 0; start = y; position = seen .position; «has_duration» = true; duration = t; «has_palette» = seen .«has_palette»; palette = p }
-      ≡ cueAnswer (pickOf (ok (of-lines ls)) cue)
+  pub pick-next : cue < seen .cues → (seen .cues - cue ≡ 1 → ⊥) → (y : ℤ) → y ≡ seen .start
+      → (v : ℕ) → v ≡ clip (seen .next -ℤ seen .start)
+      → record {
+        refused = 0;
+        start = y;
+        position = seen .position;
+        «has_duration» = true;
+        duration = v;
+        «has_palette» = seen .«has_palette»;
+        palette = p;
+      }
+      ≡ cueAnswer (pickOf (ok t) cue)
   unfolding pickOf cueAnswer
-  pick-next h n y g t f =
-      let k : cue + 1 < length (cuesOfLines ls) = omega (arith, cues-are) in
-      let c = cue-in (cuesOfLines ls) cue (omega (arith, cues-are)) in
-      let d = cue-in (cuesOfLines ls) (cue + 1) k in
-      let s : t ≡ clip (d .0 .start -ℤ c .0 .start) = f ∙ ap (λ (x : ℤ). clip (x -ℤ seen .start)) (next-is (d .0) (d .1)) ∙ ap (λ (x : ℤ). clip (d .0 .start -ℤ x)) (start-is (c .0) (c .1)) in
-      let e = ap (cueAt (cuesOfLines ls)) (sym (add-one cue)) ∙ d .1 in
-      rw (c .1, next-duration (cuesOfLines ls) cue (c .0) (d .0) (c .1) e)
+  pick-next h n y g v f =
+      let k : cue + 1 < length (cuesOf t) = omega (arith, cues-are) in
+      let c = cue-in (cuesOf t) cue (omega (arith, cues-are)) in
+      let d = cue-in (cuesOf t) (cue + 1) k in
+      let s : v ≡ clip (d .0 .start -ℤ c .0 .start) =
+      f ∙ ap (λ (x : ℤ). clip (x -ℤ seen .start)) (next-is (d .0) (d .1))
+      ∙ ap (λ (x : ℤ). clip (d .0 .start -ℤ x)) (start-is (c .0) (c .1)) in
+      let e = ap (cueAt (cuesOf t)) (sym (add-one cue)) ∙ d .1 in
+      rw (c .1, next-duration (cuesOf t) cue (c .0) (d .0) (c .1) e)
       (λ i. record {
         refused = 0;
         start = (g ∙ start-is (c .0) (c .1)) i;

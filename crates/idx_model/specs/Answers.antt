@@ -10,7 +10,7 @@ use lib.ListN.{length, replicate}
 use lib.Seq.{sets}
 use lib.IntN.{ℤ, pos}
 use Rattle.outcome.specs.Outcome.{Res, ok, refuse, need, andThen, listed, listedBy, no-cue, short-cues}
-use Rattle.grammar.specs.Index.{Said, ListedText}
+use Rattle.grammar.specs.Index.{Said, ListedText, of-lines, no-bytes}
 use Rattle.grammar.specs.IndexCues.{Cue, cuesOfLines, cuesOf, cueAt, paletteFrom, paletteOf, hasPalette, displaySize, durationOf}
 use Rattle.idx_lines_model.specs.Answers.{Value, sized, coloured, cued, valueOf}
 use Rattle.idx_lines_model.specs.declared.Line.{Line}
@@ -81,6 +81,28 @@ pub record MeasuredAs (cue : ℕ) (was : List ℕ) (lines : Res (List Said)) (r 
   pub says : r ≡ measuredOf cue nothing-seen lines
   pub palette : (ls : List Said) → lines ≡ ok ls → now ≡ paletteFrom was ls
 
+-- of a text of no bytes: one cue, whose start and position are 0
+abbrev pub one-seen : Seen
+one-seen = record { cues = 1; width = 0; height = 0; «has_palette» = false; start = pos 0; position = 0; next = pos 0 }
+
+abbrev pub seenOf : ℕ → ListedText → Seen
+seenOf cue (of-lines ls) = seeAll cue nothing-seen ls
+seenOf cue (no-bytes p) = one-seen
+
+-- the palette of a listed text, where this one was before
+abbrev pub paletteOver : List ℕ → ListedText → List ℕ
+paletteOver was (of-lines ls) = paletteFrom was ls
+paletteOver was (no-bytes p) = p
+
+abbrev pub idxMeasuredOf : ℕ → Res ListedText → Measured
+idxMeasuredOf cue (ok t) = measured.Saw (seenOf cue t)
+idxMeasuredOf cue (refuse n) = measured.Refused n
+
+-- what measuring a text leaves, with a byte or without
+pub record IdxMeasuredAs (cue : ℕ) (was : List ℕ) (text : Res ListedText) (r : Measured) (now : List ℕ) : Type 0 where
+  pub says : r ≡ idxMeasuredOf cue text
+  pub palette : (t : ListedText) → text ≡ ok t → now ≡ paletteOver was t
+
 -- ---- Cues in the lent buffers
 abbrev pub startsOf : List Cue → List ℤ
 startsOf cs = map (λ (c : Cue). c .start) cs
@@ -148,11 +170,15 @@ linesWith starts positions text = textIn (some (min (length starts) (length posi
 abbrev pub idxWith : List ℤ → List ℕ → List ℕ → Res ListedText
 idxWith starts positions text = idxIn (some (min (length starts) (length positions))) text
 
+-- its cues, stored: none on a refusal
+pub record IdxStored (text : List ℕ) (starts : List ℤ) (positions : List ℕ) (starts′ : List ℤ) (positions′ : List ℕ) : Type 0 where
+  pub starts-are : starts′ ≡ sets starts 0 (startsOf (listedBy (idxWith starts positions text) cuesOf))
+  pub positions-are : positions′ ≡ sets positions 0 (positionsOf (listedBy (idxWith starts positions text) cuesOf))
+
 -- the answer, and the front of both buffers; on a refusal both are as found
 pub record IdxRead (text : List ℕ) (starts : List ℤ) (positions : List ℕ) (r : IdxAnswer) (starts′ : List ℤ) (positions′ : List ℕ) : Type 0 where
   pub answer : r ≡ idxAnswer (idxWith starts positions text)
-  pub starts-are : starts′ ≡ sets starts 0 (startsOf (listedBy (idxWith starts positions text) cuesOf))
-  pub positions-are : positions′ ≡ sets positions 0 (positionsOf (listedBy (idxWith starts positions text) cuesOf))
+  pub stored : IdxStored text starts positions starts′ positions′
 
 -- ---- One cue
 pub record Picked : Type 0 where

@@ -70,8 +70,8 @@ fn write_cues(file: &[u8], starts: &[i64], positions: &[u64], cues: usize) {
     }
 }
 
-// The title whose index and file have these paths. A text of 65,536 bytes has at most 65,537 lines, and so no more cues;
-// one of no bytes has one.
+// The title whose index and file have these paths. A text of 65,536 bytes has at most 65,537 lines, and so no more
+// cues; one of no bytes has one.
 fn list_title(index: &[u8], file: &[u8]) {
     let mut text = [0u8; 65537];
     let mut bytes = [0u8; 65537];

@@ -124,10 +124,10 @@ module _ (there : Bool) (text file l : List ℕ) where
     opened = text-open text (min (length zs) (length ps)) (omega arith)
 
     kept-starts : length zs′ ≡ length zs
-    kept-starts = ap length (d .starts-are) ∙ length-sets zs 0 (startsOf (listedBy (idxWith zs ps text) cuesOf))
+    kept-starts = ap length (d .stored .starts-are) ∙ length-sets zs 0 (startsOf (listedBy (idxWith zs ps text) cuesOf))
 
     kept-positions : length ps′ ≡ length ps
-    kept-positions = ap length (d .positions-are) ∙ length-sets ps 0 (positionsOf (listedBy (idxWith zs ps text) cuesOf))
+    kept-positions = ap length (d .stored .positions-are) ∙ length-sets ps 0 (positionsOf (listedBy (idxWith zs ps text) cuesOf))
 
     -- the index is refused
     pub head-refused : (a .refused ≡ 0 → ⊥) → (r : Head) (l′ : List ℕ) → (Put 210 l 0 (indexLine (a .refused)) (r .size) l′) × (r .cues ≡ 0) → Headed there text file zs ps l r zs′ ps′ l′
@@ -144,10 +144,10 @@ module _ (there : Bool) (text file l : List ℕ) where
               table = rw (e, q, p .1);
               starts-are =
                   rw (e, q)
-                  (d .starts-are ∙ ap (λ (y : Res ListedText). sets zs 0 (startsOf (listedBy y cuesOf))) (opened ∙ q));
+                  (d .stored .starts-are ∙ ap (λ (y : Res ListedText). sets zs 0 (startsOf (listedBy y cuesOf))) (opened ∙ q));
               positions-are =
                   rw (e, q)
-                  (d .positions-are
+                  (d .stored .positions-are
                   ∙ ap (λ (y : Res ListedText). sets ps 0 (positionsOf (listedBy y cuesOf))) (opened ∙ q));
               starts-long = kept-starts;
               positions-long = kept-positions;
@@ -167,9 +167,9 @@ module _ (there : Bool) (text file l : List ℕ) where
             let found : idxWith zs ps text ≡ ok index = opened ∙ q in
             let room = room-iff (min (length zs) (length ps)) text index .0 found .1 in
             let s : zs′ ≡ sets zs 0 (startsOf (cuesOf index)) =
-            d .starts-are ∙ ap (λ (y : Res ListedText). sets zs 0 (startsOf (listedBy y cuesOf))) found in
+            d .stored .starts-are ∙ ap (λ (y : Res ListedText). sets zs 0 (startsOf (listedBy y cuesOf))) found in
             let t : ps′ ≡ sets ps 0 (positionsOf (cuesOf index)) =
-            d .positions-are ∙ ap (λ (y : Res ListedText). sets ps 0 (positionsOf (listedBy y cuesOf))) found in
+            d .stored .positions-are ∙ ap (λ (y : Res ListedText). sets ps 0 (positionsOf (listedBy y cuesOf))) found in
             record {
               line = rw (e, q) (written (omega arith) (put-as (ap cuesLine w) (p .0)));
               count = rw (e, q) (p .1 ∙ w);

@@ -42,15 +42,15 @@ least-title = refl
 pub small-painted : paintedOf (ok readings.small) ≡ 0 ∷ 0 ∷ 0 ∷ 255 ∷ 0 ∷ 0 ∷ 0 ∷ 255 ∷ 0 ∷ 0 ∷ 0 ∷ 255 ∷ 0 ∷ 0 ∷ 0 ∷ 255 ∷ []
 small-painted = readings.small-canvas
 
--- and of its file with an index of no bytes
+pub unit-painted : canvasStored (paletteOf (readings.small .text)) (ok (readings.small .unit)) ≡ 0 ∷ 0 ∷ 0 ∷ 255 ∷ 0 ∷ 0 ∷ 0 ∷ 255 ∷ 0 ∷ 0 ∷ 0 ∷ 255 ∷ 0 ∷ 0 ∷ 0 ∷ 255 ∷ []
+unfolding canvasOf
+unit-painted = readings.small-canvas
+
+-- and that of its file with an index of no bytes
 pub alone-painted :
     paintedOf (ok readings.alone)
     ≡ 17 ∷ 17 ∷ 17 ∷ 255 ∷ 17 ∷ 17 ∷ 17 ∷ 255 ∷ 51 ∷ 51 ∷ 51 ∷ 255 ∷ 34 ∷ 34 ∷ 34 ∷ 255 ∷ []
 alone-painted = readings.alone-canvas
-
-pub unit-painted : canvasStored (paletteOf (readings.small .text)) (ok (readings.small .unit)) ≡ 0 ∷ 0 ∷ 0 ∷ 255 ∷ 0 ∷ 0 ∷ 0 ∷ 255 ∷ 0 ∷ 0 ∷ 0 ∷ 255 ∷ 0 ∷ 0 ∷ 0 ∷ 255 ∷ []
-unfolding canvasOf
-unit-painted = readings.small-canvas
 
 -- what is shown of 3 by 4 at 1 2 with 5 codes, 2 of them clipped
 abbrev given : Shown

@@ -24,8 +24,8 @@ module _ (t : List ℕ) (s s′ : List ℤ) (p p′ px ns : List ℕ) (a : IdxAn
         returned = index-returned s p t 0 (sym z ∙ ap (λ (o : IdxAnswer). o .refused) (q .answer));
         told = n ∙ sym (ap (λ (b : Bool). cond b (idxNumbers a) ns) y) ∙ ap (λ (o : IdxAnswer). idxRecord o ns) (q .answer);
         colours = sym (ap (λ (b : Bool). cond b (a .palette) px) y) ∙ ap (λ (o : IdxAnswer). idxPalette o px) (q .answer);
-        starts-are = q .starts-are;
-        positions-are = q .positions-are;
+        starts-are = q .stored .starts-are;
+        positions-are = q .stored .positions-are;
       }
 
   -- and on a refusal
@@ -37,8 +37,8 @@ module _ (t : List ℕ) (s s′ : List ℤ) (p p′ px ns : List ℕ) (a : IdxAn
         returned = index-returned s p t (a .refused) (ap (λ (o : IdxAnswer). o .refused) (q .answer));
         told = sym (ap (λ (b : Bool). cond b (idxNumbers a) ns) y) ∙ ap (λ (o : IdxAnswer). idxRecord o ns) (q .answer);
         colours = sym (ap (λ (b : Bool). cond b (a .palette) px) y) ∙ ap (λ (o : IdxAnswer). idxPalette o px) (q .answer);
-        starts-are = q .starts-are;
-        positions-are = q .positions-are;
+        starts-are = q .stored .starts-are;
+        positions-are = q .stored .positions-are;
       }
 
 parse-idx-requires : tie.Need-parse-idx-requires
