@@ -114,15 +114,26 @@ uint8_t vobsub_pick_cue(const uint8_t *text, size_t text_len,
                         uint8_t palette[VOBSUB_PALETTE],
                         uint64_t numbers[VOBSUB_CUE_NUMBERS]);
 
+/* Places of the times of a painted cue, in microseconds: its start in the index text, when it is shown and when it is hidden. The unit's delays
+   are converted, ticks * 102400 / 9 rounded down, before they are added to the start: the delay of the first start gives the show time, that
+   of the last stop the hide time. Without a start there is neither, and without a stop no hide time; a time that there is not is 0. The hide
+   time may be the show time, or before it. */
+enum vobsub_time {
+    VOBSUB_TIME_START, VOBSUB_TIME_SHOW, VOBSUB_TIME_HIDE,
+    VOBSUB_TIMES
+};
+
 /* Places of the numbers of a painted cue: whether another cue follows (1) or none (0), the microseconds up to that one, 0 where none follows,
-   the delays of the unit's first start and last stop (both in 1024/90000 of a second, 0 where there is none), the place of the first pixel on
-   the display, the size, the number of codes read, the number of those that are clipped. */
+   the delays of the unit's first start and last stop (both in ticks of 1024/90000 of a second, 0 where there is none), the place of the first
+   pixel on the display, the size, the number of codes read, the number of those that are clipped, whether there is a start (1) or none (0), and
+   with it a show time, whether there is a stop, and whether there is a hide time, which takes both. */
 enum vobsub_shown_number {
     VOBSUB_SHOWN_HAS_DURATION, VOBSUB_SHOWN_DURATION,
     VOBSUB_SHOWN_START_DELAY, VOBSUB_SHOWN_STOP_DELAY,
     VOBSUB_SHOWN_X1, VOBSUB_SHOWN_Y1,
     VOBSUB_SHOWN_WIDTH, VOBSUB_SHOWN_HEIGHT,
     VOBSUB_SHOWN_CODES, VOBSUB_SHOWN_CLIPPED,
+    VOBSUB_SHOWN_STARTED, VOBSUB_SHOWN_STOPPED, VOBSUB_SHOWN_HAS_HIDE,
     VOBSUB_SHOWN_NUMBERS
 };
 
@@ -130,11 +141,12 @@ enum vobsub_shown_number {
    and cue may be any number; so may stream, and 0 to 31 are streams, as for vobsub_extract_spu. The canvas goes to the front of canvas, which has
    canvas_len bytes: red, green, blue and alpha of each pixel, row after row. The picture as colour numbers goes to the front of pixels, which has
    pixels_len bytes; its bands go to the front of words, which has words_len words; a unit that packets hold is joined in the front of scratch,
-   which has scratch_len bytes. *start is set to the cue's start in microseconds; numbers has VOBSUB_SHOWN_NUMBERS numbers, and gets those of the
-   cue. start and numbers are not null, and the eight regions do not overlap. Of canvas 4 * width * height bytes are written, of pixels width *
-   height, of words and scratch as many as the bands and the joined unit take. On a refusal (1 to 9, then 32, then 11 to 26) all are as they were,
-   but that after 15 to 26 a unit that packets hold is in the front of scratch. A text of no bytes has cue 0, at the front of file, painted in
-   greys as for vobsub_parse_idx. A unit has 65535 bytes at most, a picture 4096 by 4096 pixels. It takes up to 262 KiB of stack. */
+   which has scratch_len bytes. times has VOBSUB_TIMES numbers, and gets the cue's times; numbers has VOBSUB_SHOWN_NUMBERS numbers, and gets those
+   of the cue. times and numbers are not null, and the eight regions do not overlap. Of canvas 4 * width * height bytes are written, of pixels
+   width * height, of words and scratch as many as the bands and the joined unit take. On a refusal (1 to 9, then 32, then 11 to 26, then 33, where
+   a time that there is does not fit int64_t) all are as they were, but that after 15 to 26 and 33 a unit that packets hold is in the front of
+   scratch. A text of no bytes has cue 0, at the front of file, painted in greys as for vobsub_parse_idx. A unit has 65535 bytes at most, a picture
+   4096 by 4096 pixels. It takes up to 262 KiB of stack. */
 uint8_t vobsub_decode_cue(const uint8_t *text, size_t text_len,
                           const uint8_t *file, size_t file_len,
                           size_t cue, size_t stream,
@@ -142,7 +154,7 @@ uint8_t vobsub_decode_cue(const uint8_t *text, size_t text_len,
                           uint8_t *pixels, size_t pixels_len,
                           uint16_t *words, size_t words_len,
                           uint8_t *canvas, size_t canvas_len,
-                          int64_t *start,
+                          int64_t times[VOBSUB_TIMES],
                           uint64_t numbers[VOBSUB_SHOWN_NUMBERS]);
 
 /* Writes a picture of that width and height as a unit into the front of out, which has out_len bytes. indices has indices_len bytes, the

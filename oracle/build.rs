@@ -1,7 +1,7 @@
 // Takes the original from beside the repository (or from the folder that VOBSUB_ORIGINAL names) into the build's own
 // folder: private items opened, and an adapter appended. Nothing else is changed, but in the copies that are meant to
-// differ: one that counts codes and clipped codes, and, with the feature `mutants`, one for each line of mutants.txt,
-// of the original or of src/empty.rs.
+// differ: one that counts codes and clipped codes and says whether a start and a stop stood, and, with the feature
+// `mutants`, one for each line of mutants.txt, of the original, of src/empty.rs or of src/times.rs.
 use std::env;
 use std::fs;
 use std::path::{Path, PathBuf};
@@ -51,14 +51,20 @@ fn changed(text: &str, function: &str, token: &str, nth: usize, by: &str) -> Str
     panic!("{function} has {token} {seen} times, not {nth}");
 }
 
-// What the counting copy has more than the original. Every turn of the field decoder's loop reads one code. It is
-// clipped where its run passes the width and its count is not 0, which is that of a fill. The two last counts are not
-// compared; they tell what requests meet.
-const COUNTING: [(&str, &str); 4] = [
-    ("while row < height {", "while row < height { crate::count(|c| c.codes += 1);"),
-    ("let end =", "if count != 0 && col + run > width { crate::count(|c| c.clipped += 1); } let end ="),
-    ("let end =", "if count != 0 && col + run == width { crate::count(|c| c.exact += 1); } let end ="),
-    ("(0, (combined", "if (combined >> 2) as usize > width - col { crate::count(|c| c.long_fills += 1); } (0, (combined"),
+// What the counting copy has more than the original: the function, the token, what stands in its place. The commands 00
+// and 01 are starts, 02 is a stop. Every turn of the field decoder's loop reads one code. It is clipped where its run
+// passes the width and its count is not 0, which is that of a fill. The two last counts are not compared; they tell what
+// requests meet.
+const UNIT: &str = "parse_and_decode_spu";
+const FIELD: &str = "decode_rle_field";
+const COUNTING: [(&str, &str, &str); 7] = [
+    (UNIT, "0x00 => {", "0x00 => { crate::count(|c| c.started = true);"),
+    (UNIT, "0x01 => {", "0x01 => { crate::count(|c| c.started = true);"),
+    (UNIT, "0x02 => {", "0x02 => { crate::count(|c| c.stopped = true);"),
+    (FIELD, "while row < height {", "while row < height { crate::count(|c| c.codes += 1);"),
+    (FIELD, "let end =", "if count != 0 && col + run > width { crate::count(|c| c.clipped += 1); } let end ="),
+    (FIELD, "let end =", "if count != 0 && col + run == width { crate::count(|c| c.exact += 1); } let end ="),
+    (FIELD, "(0, (combined", "if (combined >> 2) as usize > width - col { crate::count(|c| c.long_fills += 1); } (0, (combined"),
 ];
 
 fn write(out: &Path, name: &str, text: &str, adapter: &str) -> String {
@@ -75,7 +81,8 @@ fn main() {
     let path = folder.join("src/vobsub.rs");
     let library = repository.join("target/staticlib");
     println!("cargo:rerun-if-env-changed=VOBSUB_ORIGINAL");
-    for file in [&path, &library.join("libvobsub_c.a"), &here.join("mutants.txt"), &here.join("src/adapter.rs"), &here.join("src/empty.rs")] {
+    let own = ["mutants.txt", "src/adapter.rs", "src/empty.rs", "src/times.rs"].map(|file| here.join(file));
+    for file in own.iter().chain([&path, &library.join("libvobsub_c.a")]) {
         println!("cargo:rerun-if-changed={}", file.display());
     }
     println!("cargo:rustc-link-search=native={}", library.display());
@@ -86,10 +93,11 @@ fn main() {
     let adapter = fs::read_to_string(here.join("src/adapter.rs")).expect("the adapter");
     let mut modules = write(&out, "original", &text, &adapter);
 
-    let counting = COUNTING.iter().fold(text.clone(), |text, (token, by)| changed(&text, "decode_rle_field", token, 1, by));
+    let counting = COUNTING.iter().fold(text.clone(), |text, (function, token, by)| changed(&text, function, token, 1, by));
     modules += &write(&out, "counting", &counting, &adapter);
 
     let empty = fs::read_to_string(here.join("src/empty.rs")).expect("empty.rs");
+    let times = fs::read_to_string(here.join("src/times.rs")).expect("times.rs");
     modules += "pub const MUTANTS: &[(&str, crate::side::Side)] = &[\n";
     let mut mutants = String::new();
     if env::var("CARGO_FEATURE_MUTANTS").is_ok() {
@@ -104,6 +112,7 @@ fn main() {
                     (&counting, function, &adapter[..], format!("crate::side::Side {{ counting: {name}::adapter::COUNTING, ..original::adapter::SIDE }}"))
                 }
                 Some(("empty", function)) => (&empty, function, "", format!("crate::side::Side {{ empty: {name}::EMPTY, ..original::adapter::SIDE }}")),
+                Some(("times", function)) => (&times, function, "", format!("crate::side::Side {{ times: {name}::TIMES, ..original::adapter::SIDE }}")),
                 Some(_) => panic!("a line of mutants.txt: {line}"),
             };
             mutants += &write(&out, &name, &changed(from, function, token, nth.parse().unwrap(), by), adapter);

@@ -8,17 +8,17 @@
 
 #include "vobsub.h"
 
-/* two languages, each a unit of 33 bytes in two packets: stream 0 has the id 0x20 before its bytes, stream 1 has 0x21;
-   the last code of stream 1, 0xD, names three pixels in a row of two */
+/* two languages, each a unit in two packets: stream 0 has the id 0x20 before its bytes, stream 1 has 0x21; the last code
+   of stream 1, 0xD, names three pixels in a row of two, and its second block stops the display after 0x64 ticks */
 static const uint8_t own[] = {
     0x00, 0x00, 0x01, 0xBD, 0x00, 0x11, 0x80, 0x00, 0x00, 0x20,
     0x00, 0x21, 0x00, 0x09, 0x00, 0x01, 0x60, 0x00, 0x30, 0x00, 0x00, 0x00, 0x09,
     0x00, 0x00, 0x01, 0xBD, 0x00, 0x17, 0x80, 0x00, 0x00, 0x21,
-    0x00, 0x21, 0x00, 0x09, 0x70, 0x00, 0x20, 0xD0, 0x00, 0x00, 0x00, 0x00, 0x09, 0x03, 0x01, 0x32, 0x04, 0x0F, 0xFF,
+    0x00, 0x27, 0x00, 0x09, 0x70, 0x00, 0x20, 0xD0, 0x00, 0x00, 0x00, 0x00, 0x21, 0x03, 0x01, 0x32, 0x04, 0x0F, 0xFF,
     0x00, 0x00, 0x01, 0xBD, 0x00, 0x18, 0x80, 0x00, 0x00, 0x20,
     0x03, 0x01, 0x32, 0x04, 0x0F, 0xFF, 0x05, 0x00, 0x00, 0x01, 0x00, 0x00, 0x01, 0x06, 0x00, 0x04, 0x00, 0x06, 0x01, 0xFF,
-    0x00, 0x00, 0x01, 0xBD, 0x00, 0x12, 0x80, 0x00, 0x00, 0x21,
-    0x05, 0x00, 0x00, 0x01, 0x00, 0x20, 0x03, 0x06, 0x00, 0x04, 0x00, 0x07, 0x01, 0xFF,
+    0x00, 0x00, 0x01, 0xBD, 0x00, 0x18, 0x80, 0x00, 0x00, 0x21,
+    0x05, 0x00, 0x00, 0x01, 0x00, 0x20, 0x03, 0x06, 0x00, 0x04, 0x00, 0x07, 0x01, 0xFF, 0x00, 0x64, 0x00, 0x21, 0x02, 0xFF,
 };
 
 /* the index text of the title whose file is the packets above */
@@ -31,23 +31,23 @@ static const char index_text[] =
 static uint8_t scratch[65535], pixels[4096 * 4096];
 static uint16_t bands[65536];
 
-/* The line of a cue in one stream of the packets above under an index text, with the number of its clipped codes, and
-   its pixels as red, green, blue and alpha. */
+/* The line of a cue in one stream of the packets above under an index text, with the number of its clipped codes; when it
+   is shown and hidden; and its pixels as red, green, blue and alpha. */
 static void paint(const char *text, size_t text_len, size_t cue, size_t stream)
 {
     uint8_t canvas[16], refusal;
     uint64_t numbers[VOBSUB_SHOWN_NUMBERS];
-    int64_t start;
+    int64_t times[VOBSUB_TIMES];
     size_t i, x, y;
 
     refusal = vobsub_decode_cue((const uint8_t *)text, text_len, own, sizeof own, cue, stream, scratch, sizeof scratch,
-                                pixels, sizeof pixels, bands, sizeof bands / sizeof bands[0], canvas, sizeof canvas, &start, numbers);
+                                pixels, sizeof pixels, bands, sizeof bands / sizeof bands[0], canvas, sizeof canvas, times, numbers);
     printf("%sstream %zu, cue %zu: ", text_len == 0 ? "empty index, " : "", stream, cue);
     if (refusal != 0) {
         printf("refused %u\n", refusal);
         return;
     }
-    printf("%" PRId64 " ", start);
+    printf("%" PRId64 " ", times[VOBSUB_TIME_START]);
     if (numbers[VOBSUB_SHOWN_HAS_DURATION])
         printf("%" PRIu64, numbers[VOBSUB_SHOWN_DURATION]);
     else
@@ -56,6 +56,12 @@ static void paint(const char *text, size_t text_len, size_t cue, size_t stream)
         printf(" %" PRIu64, numbers[i]);
     printf(" %" PRIu64 " %" PRIu64, numbers[VOBSUB_SHOWN_START_DELAY], numbers[VOBSUB_SHOWN_STOP_DELAY]);
     printf(" %" PRIu64 ", %" PRIu64 " clipped\n", numbers[VOBSUB_SHOWN_CODES], numbers[VOBSUB_SHOWN_CLIPPED]);
+    if (!numbers[VOBSUB_SHOWN_STARTED])
+        printf("never shown\n");
+    else if (!numbers[VOBSUB_SHOWN_HAS_HIDE])
+        printf("shown at %" PRId64 ", no hide time\n", times[VOBSUB_TIME_SHOW]);
+    else
+        printf("shown at %" PRId64 ", hidden at %" PRId64 "\n", times[VOBSUB_TIME_SHOW], times[VOBSUB_TIME_HIDE]);
     for (y = 0; y < numbers[VOBSUB_SHOWN_HEIGHT]; y++) {
         for (x = 0; x < numbers[VOBSUB_SHOWN_WIDTH]; x++) {
             for (i = 0; i < 4; i++)

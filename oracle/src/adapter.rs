@@ -131,5 +131,6 @@ pub mod adapter {
         write: build_demo_spu,
         counting: crate::counting::adapter::COUNTING,
         empty: crate::empty::EMPTY,
+        times: crate::times::TIMES,
     };
 }

@@ -59,6 +59,8 @@ pub struct Outcome {
     pub copied: Option<&'static str>,
     // The rule of the text of no bytes, about which the original was not asked; the other two may apply besides.
     pub empty: Option<&'static str>,
+    // The rule of a time that leaves signed 64 bits, where the original paints; `rule` and `copied` may apply besides.
+    pub long: Option<&'static str>,
     // What the request is counted for, by the names in the class's `met`.
     pub met: Vec<&'static str>,
     // Where the two differ.
@@ -69,7 +71,7 @@ pub struct Outcome {
 
 impl Outcome {
     pub fn rules(&self) -> impl Iterator<Item = &'static str> {
-        [self.rule, self.copied, self.empty].into_iter().flatten()
+        [self.rule, self.copied, self.empty, self.long].into_iter().flatten()
     }
 
     // Notes a difference unless the condition holds.

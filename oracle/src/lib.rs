@@ -6,6 +6,7 @@ pub mod oxideav_core;
 pub mod port;
 pub mod random;
 pub mod side;
+pub mod times;
 pub mod titles;
 pub mod walk;
 
@@ -15,9 +16,12 @@ include!(concat!(env!("OUT_DIR"), "/variants.rs"));
 
 pub const VOBSUB_CODEC_ID: &str = "vobsub";
 
-// What the counting copy of the original counts (see build.rs).
+// What the counting copy of the original counts, and says (see build.rs).
 #[derive(Clone, Copy)]
 pub struct Counts {
+    // Whether a start stood in a block, of either kind, and whether a stop did.
+    pub started: bool,
+    pub stopped: bool,
     // Codes read, fills and clipped ones included.
     pub codes: usize,
     // Those whose run is longer than what was left of their row.
@@ -33,7 +37,7 @@ pub const EXACT: &str = "accepted, with a code exactly as long as what is left o
 pub const LONG_FILL: &str = "accepted, with a fill whose v/4 is above what is left of its row";
 
 impl Counts {
-    const NONE: Counts = Counts { codes: 0, clipped: 0, exact: 0, long_fills: 0 };
+    const NONE: Counts = Counts { started: false, stopped: false, codes: 0, clipped: 0, exact: 0, long_fills: 0 };
 
     // What an accepted request with these counts is counted for.
     pub fn met(self) -> impl Iterator<Item = &'static str> {

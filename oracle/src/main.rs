@@ -90,7 +90,7 @@ impl Tally {
             println!("    by rule in all, {}, as {two} are under two{more}", one + two + three);
         }
         for (what, count) in &self.met {
-            println!("    met {count} times: {what}");
+            println!("    met {count} times, {} of them generated: {what}", self.met_generated[what]);
         }
         for (words, (count, q)) in &self.panics {
             println!("    the original panicked {count} times: {words}; smallest {:?} {}", q.n, hex(&q.bytes));

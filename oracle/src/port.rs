@@ -21,9 +21,11 @@ pub const DURATION: usize = 2;
 pub const CUE_COLOURED: usize = 3;
 pub const COLOURS: usize = 48;
 
-// How many numbers of a painted cue there are: whether it has a duration, the duration, both delays, x1, y1, width,
-// height, codes, clipped codes.
-pub const SHOWN_NUMBERS: usize = 10;
+// How many times of a painted cue there are: start, show time, hide time.
+pub const TIMES: usize = 3;
+// How many numbers of it: whether it has a duration, the duration, both delays, x1, y1, width, height, codes, clipped
+// codes, whether there is a start, a stop, a hide time.
+pub const SHOWN_NUMBERS: usize = 13;
 
 unsafe extern "C" {
     fn vobsub_parse_pes_body(pes: *const u8, pes_len: usize, body: *mut usize) -> u8;
@@ -48,7 +50,7 @@ unsafe extern "C" {
         words_len: usize,
         canvas: *mut u8,
         canvas_len: usize,
-        start: *mut i64,
+        times: *mut i64,
         numbers: *mut u64,
     ) -> u8;
     fn vobsub_build_demo_spu(width: usize, height: usize, indices: *const u8, indices_len: usize, out: *mut u8, out_len: usize, length: *mut usize) -> u8;
@@ -94,7 +96,7 @@ pub struct Lent<'a> {
     pub canvas: &'a mut [u8],
 }
 
-pub fn decode_cue(text: &[u8], file: &[u8], cue: usize, stream: usize, lent: Lent, start: &mut i64, numbers: &mut [u64; SHOWN_NUMBERS]) -> u8 {
+pub fn decode_cue(text: &[u8], file: &[u8], cue: usize, stream: usize, lent: Lent, times: &mut [i64; TIMES], numbers: &mut [u64; SHOWN_NUMBERS]) -> u8 {
     let Lent { scratch, pixels, words, canvas } = lent;
     unsafe {
         vobsub_decode_cue(
@@ -112,7 +114,7 @@ pub fn decode_cue(text: &[u8], file: &[u8], cue: usize, stream: usize, lent: Len
             words.len(),
             canvas.as_mut_ptr(),
             canvas.len(),
-            start,
+            times.as_mut_ptr(),
             numbers.as_mut_ptr(),
         )
     }

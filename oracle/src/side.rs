@@ -1,6 +1,8 @@
 // The original in the terms in which both sides are compared.
+use crate::Counts;
 use crate::empty::NO_BYTES;
-use crate::port::NUMBERS;
+use crate::port::{NUMBERS, START, STOP};
+use crate::times::LONG;
 
 // What the original has at a position of a file.
 pub enum Spot {
@@ -69,9 +71,10 @@ pub struct Side {
     pub write: fn(u16, u16, &[u8]) -> Vec<u8>,
     pub counting: Counting,
     pub empty: Empty,
+    pub times: Times,
 }
 
-// The copy that counts codes, which the original does not: called in `counted`.
+// The copy that counts codes and says whether a start and a stop stood, which the original does not: called in `counted`.
 #[derive(Clone, Copy)]
 pub struct Counting {
     pub field: fn(&[u8], usize, usize, usize, &mut [u8]) -> Result<(), String>,
@@ -92,6 +95,43 @@ impl Empty {
     // The rule, where the text is that one.
     pub fn rule(&self, text: &[u8]) -> Option<&'static str> {
         (self.no_bytes)(text).then_some(NO_BYTES)
+    }
+}
+
+// What a cue's times are worked out from: its start, and the delays of its first start and last stop, of those that stood.
+#[derive(Clone, Copy)]
+pub struct Delays {
+    pub from: i64,
+    pub start: Option<usize>,
+    pub stop: Option<usize>,
+}
+
+impl Delays {
+    // The original's own start and delays; what stood, its counting copy says.
+    pub fn of(from: i64, decoded: &Decoded, counts: Counts) -> Delays {
+        let delay = |stood: bool, place: usize| stood.then_some(decoded.numbers[place]);
+        Delays { from, start: delay(counts.started, START), stop: delay(counts.stopped, STOP) }
+    }
+}
+
+// The show and the hide time of a cue, which the original does not give.
+#[derive(Clone, Copy)]
+pub struct Times {
+    pub show: fn(Delays) -> Option<i128>,
+    pub hide: fn(Delays) -> Option<i128>,
+    // Whether a time is outside signed 64 bits.
+    pub leaves: fn(i128) -> bool,
+}
+
+impl Times {
+    // The show time and the hide time, those that there are.
+    pub fn of(&self, cue: Delays) -> [Option<i128>; 2] {
+        [(self.show)(cue), (self.hide)(cue)]
+    }
+
+    // The rule, where a time that there is leaves.
+    pub fn rule(&self, cue: Delays) -> Option<&'static str> {
+        self.of(cue).into_iter().flatten().any(self.leaves).then_some(LONG)
     }
 }
 

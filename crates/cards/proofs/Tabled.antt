@@ -29,13 +29,14 @@ use Rattle.spu_model.specs.Unit.{rowsAt, unitAt}
 use Rattle.grammar.specs.IndexNumbers.{numeral}
 use Rattle.grammar.specs.Index.{startOf}
 use Rattle.idx_numbers_model.specs.Parts.{front, rest, all, shorn, trim, split, strip}
-use Rattle.idx_numbers_model.specs.Times.{checked}
+use Rattle.clock_model.specs.Sums.{checked}
 use Rattle.idx_numbers_model.specs.Numbers.{unsigned, signed, bare}
 use Rattle.grammar.specs.IndexCues.{cuesOfLines, cueAt, durationOf}
 use Rattle.idx_lines_model.specs.Lines.{steps, firstOf, lastOf, partsAt}
 use Rattle.idx_model.specs.Text.{linesIn, textIn, idxIn}
 use Rattle.listing_model.specs.Lines.{digitsIn, decimal, shownLine, refusedLine, cuesLine, fileLine}
-use Rattle.listing_model.specs.Title.{unitFor, shownFor, readable, cuesIn, cueLines, titleLines}
+use Rattle.clock_model.specs.Clock.{timesStay}
+use Rattle.listing_model.specs.Title.{unitFor, timedFor, shownFor, readable, cuesIn, cueLines, titleLines}
 use Rattle.idx_lines_model.specs.Lines as text-lines
 use Rattle.idx_lines_model.specs.Answers.{timeAt}
 use Rattle.grammar.specs.Picture.{evens}
@@ -47,7 +48,7 @@ use Rattle.grammar.specs.Reading.{wanted, wordsOf}
 use Rattle.grammar.proofs.Readings as readings
 use Rattle.vobsub_model.specs.Call.{lent}
 use Rattle.vobsub_model.proofs.Claim.{reading-iff}
-use Rattle.cards.specs.Table.{Card, code, reader, field, fields, unit, found, held, written, upper, position, start, stamped, hours-stand, hours-leave, small-text, small-file, cueFrom, shownFrom, shows, cue, title, small-title, small-painted, alone-title, alone-painted, bytes, lines, table}
+use Rattle.cards.specs.Table.{Card, code, reader, field, fields, unit, found, held, written, upper, position, start, stamped, hours-stand, hours-leave, small-text, small-file, cueFrom, shownFrom, shows, cue, title, small-title, small-painted, alone-title, alone-painted, timed-file, timed-painted, bytes, lines, table}
 
 abbrev gotOf : List Card → List (List ℕ)
 gotOf = map (λ (c : Card). c .got)
@@ -72,14 +73,15 @@ leave-holds : hours-leave .got ≡ hours-leave .want
 unfolding hours-leave stamped front rest shorn trim strip checked cuesOfLines cueAt durationOf firstOf lastOf partsAt text-lines.lineOf linesIn textIn idxIn numeral startOf all split unsigned signed bare text-lines.fields steps timeAt
 leave-holds = refl
 
--- the title of 2 by 2: its cues, what is shown of its unit from any start on, and its line
+-- the title of 2 by 2: its cues, what is shown of its unit from two starts on, and its line
 small-cues : cuesIn small-text ≡ ok (cueFrom 1000000 ∷ [])
 unfolding small-text front rest shorn trim strip checked cuesOfLines cueAt durationOf firstOf lastOf partsAt text-lines.lineOf linesIn textIn idxIn digitsIn decimal shownLine refusedLine cuesLine fileLine unitFor shownFor code field fields unit found written upper evens runs cut marksOf digits nibblesOf packed pictureRows fieldNibbles allColours pictureOk sizedUnit demoAt demo.unitOf position start numeral startOf all split unsigned signed bare text-lines.fields steps timeAt joined unitOf leading header1At headerAt bodyAt keptAt packAt privateAt kindAt packetAt packetsAt isBare formAt ps-unit.unitAt streamUnit listFuel listFrom word nibble nibbles paints overshoots afterCodes align rowPixels codesIn clippedRow clippedIn indexMap topEnd codeFrom codeAt rowAt fieldAt rowsFrom paintField decoded rowCounts fieldCounts weave lowerAt fieldsAt plainAt changeAt orderAt commandAt commandsAt blockAt blocksAt headFits chainAt controlAt spuOf entryWords bandWords rowsAt unitAt told commandsOf commandsIn firstDelay lastDelay lastNumbers stands allBands
 small-cues = refl
 
-unit-shows : (z : ℕ) → shownFor (cueFrom z ∷ []) small-file 0 ≡ ok (shownFrom z)
-unfolding small-file front rest shorn trim strip checked cuesOfLines cueAt durationOf firstOf lastOf partsAt text-lines.lineOf linesIn textIn idxIn digitsIn decimal shownLine refusedLine cuesLine fileLine unitFor shownFor code field fields unit found written upper evens runs cut marksOf digits nibblesOf packed pictureRows fieldNibbles allColours pictureOk sizedUnit demoAt demo.unitOf position start numeral startOf all split unsigned signed bare text-lines.fields steps timeAt joined unitOf leading header1At headerAt bodyAt keptAt packAt privateAt kindAt packetAt packetsAt isBare formAt ps-unit.unitAt streamUnit listFuel listFrom word nibble nibbles paints overshoots afterCodes align rowPixels codesIn clippedRow clippedIn indexMap topEnd codeFrom codeAt rowAt fieldAt rowsFrom paintField decoded rowCounts fieldCounts weave lowerAt fieldsAt plainAt changeAt orderAt commandAt commandsAt blockAt blocksAt headFits chainAt controlAt spuOf entryWords bandWords rowsAt unitAt told commandsOf commandsIn firstDelay lastDelay lastNumbers stands allBands
-unit-shows z = refl
+unit-shows : (shownFor (cueFrom 1000000 ∷ []) small-file 0 ≡ ok (shownFrom 1000000))
+    × (shownFor (cueFrom 0 ∷ []) small-file 0 ≡ ok (shownFrom 0))
+unfolding small-file front rest shorn trim strip checked cuesOfLines cueAt durationOf firstOf lastOf partsAt text-lines.lineOf linesIn textIn idxIn digitsIn decimal shownLine refusedLine cuesLine fileLine unitFor timedFor timesStay shownFor code field fields unit found written upper evens runs cut marksOf digits nibblesOf packed pictureRows fieldNibbles allColours pictureOk sizedUnit demoAt demo.unitOf position start numeral startOf all split unsigned signed bare text-lines.fields steps timeAt joined unitOf leading header1At headerAt bodyAt keptAt packAt privateAt kindAt packetAt packetsAt isBare formAt ps-unit.unitAt streamUnit listFuel listFrom word nibble nibbles paints overshoots afterCodes align rowPixels codesIn clippedRow clippedIn indexMap topEnd codeFrom codeAt rowAt fieldAt rowsFrom paintField decoded rowCounts fieldCounts weave lowerAt fieldsAt plainAt changeAt orderAt commandAt commandsAt blockAt blocksAt headFits chainAt controlAt spuOf entryWords bandWords rowsAt unitAt told commandsOf commandsIn firstDelay lastDelay lastNumbers stands allBands
+unit-shows = (refl, refl)
 
 small-line : (cuesLine 1 ++ (shownLine 0 (shownFrom 1000000) ++ [])) ≡ small-title .want
 unfolding small-title front rest shorn trim strip checked cuesOfLines cueAt durationOf firstOf lastOf partsAt text-lines.lineOf linesIn textIn idxIn digitsIn decimal shownLine refusedLine cuesLine fileLine unitFor shownFor code field fields unit found written upper evens runs cut marksOf digits nibblesOf packed pictureRows fieldNibbles allColours pictureOk sizedUnit demoAt demo.unitOf position start numeral startOf all split unsigned signed bare text-lines.fields steps timeAt joined unitOf leading header1At headerAt bodyAt keptAt packAt privateAt kindAt packetAt packetsAt isBare formAt ps-unit.unitAt streamUnit listFuel listFrom word nibble nibbles paints overshoots afterCodes align rowPixels codesIn clippedRow clippedIn indexMap topEnd codeFrom codeAt rowAt fieldAt rowsFrom paintField decoded rowCounts fieldCounts weave lowerAt fieldsAt plainAt changeAt orderAt commandAt commandsAt blockAt blocksAt headFits chainAt controlAt spuOf entryWords bandWords rowsAt unitAt told commandsOf commandsIn firstDelay lastDelay lastNumbers stands allBands
@@ -91,7 +93,7 @@ small-readable = refl
 
 small-holds : small-title .got ≡ small-title .want
 unfolding small-title title titleLines cueLines
-small-holds = rw (small-readable, small-cues, unit-shows 1000000) small-line
+small-holds = rw (small-readable, small-cues, unit-shows .0) small-line
 
 -- its reading is a closed term that passes the grammar, and so the one that is found
 small-paints : small-painted .got ≡ small-painted .want
@@ -116,7 +118,7 @@ alone-readable = refl
 
 alone-holds : alone-title .got ≡ alone-title .want
 unfolding alone-title title titleLines cueLines
-alone-holds = rw (alone-readable, alone-cues, unit-shows 0) alone-line
+alone-holds = rw (alone-readable, alone-cues, unit-shows .1) alone-line
 
 alone-paints : alone-painted .got ≡ alone-painted .want
 unfolding alone-painted cue small-file wordsOf told commandsOf commandsIn firstDelay lastDelay lastNumbers stands allBands
@@ -131,6 +133,21 @@ alone-paints =
       },
     ))
     (λ i. 0 ∷ shows (readings.alone-shown i) ++ readings.alone-canvas i)
+
+-- the file of one that is shown and hidden
+timed-paints : timed-painted .got ≡ timed-painted .want
+unfolding timed-painted cue small-text timed-file wordsOf told commandsOf commandsIn firstDelay lastDelay lastNumbers stands allBands
+timed-paints =
+    rw (reading-iff small-text timed-file (wanted 0 0) (lent [] (9 ∷ []) [] (replicate 4 9)) readings.timed .1 (
+      readings.timed-passes,
+      record {
+        for-unit = omega arith;
+        for-map = omega arith;
+        for-bands = omega (arith, ap length readings.timed-words);
+        for-canvas = omega arith;
+      },
+    ))
+    (λ i. 0 ∷ shows (readings.timed-shown i) ++ readings.timed-canvas i)
 
 map-both : (f : Card → List ℕ) (a b : List Card) → map f (a ++ b) ≡ map f a ++ map f b
 map-both f [] b = refl
@@ -153,7 +170,8 @@ tabled =
     (first small-holds
     (first alone-paints
     (first alone-holds
-    (map-both (λ (c : Card). c .got) bytes lines ∙ ap₂ (λ (a b : List (List ℕ)). a ++ b) bytes-hold lines-hold ∙ sym (map-both (λ (c : Card). c .want) bytes lines)))))))
+    (first timed-paints
+    (map-both (λ (c : Card). c .got) bytes lines ∙ ap₂ (λ (a b : List (List ℕ)). a ++ b) bytes-hold lines-hold ∙ sym (map-both (λ (c : Card). c .want) bytes lines))))))))
 
 pub each : (k : ℕ) → getD got k [] ≡ getD want k []
 each k = ap (λ (l : List (List ℕ)). getD l k []) tabled

@@ -122,7 +122,7 @@ blocks =
 -- a record, field by field
 abbrev pub fieldsOf : Spu → List ℕ
 fieldsOf s =
-    s .x1 ∷ s .y1 ∷ s .x2 ∷ s .y2 ∷ s .«palette_sel» ∷ s .alpha ∷ cond (s .started) 1 0 ∷ s .«start_delay_raw» ∷ cond (s .stopped) 1 0 ∷ s .«stop_delay_raw»
+    s .x1 ∷ s .y1 ∷ s .x2 ∷ s .y2 ∷ s .«palette_sel» ∷ s .alpha ∷ cond (s .started) 1 0 ∷ s .«start_delay_raw» .0 ∷ cond (s .stopped) 1 0 ∷ s .«stop_delay_raw» .0
     ∷ cond (s .«forced_display») 1 0 ∷ s .«top_rle_off» ∷ s .«bot_rle_off» ∷ cond (s .«saw_chg_colcon») 1 0
     ∷ s .«band_words» ∷ s .codes ∷ s .clipped ∷ []
 
@@ -162,6 +162,10 @@ shownFrom z =
       duration = none;
       start-delay = 0;
       stop-delay = 0;
+      started = true;
+      stopped = false;
+      show = some (pos z);
+      hide = none;
       x1 = 0;
       y1 = 0;
       width = 2;
@@ -171,15 +175,21 @@ shownFrom z =
     }
 
 -- the first cue of a text and a file, with so much of each buffer lent: start, whether it lasts and how long, both
--- delays, origin, size, the numbers of codes and of clipped ones, and the canvas (FORMAT 6)
+-- delays, whether a start and a stop command stand, whether it is shown and when, whether it is hidden and when,
+-- origin, size, the numbers of codes and of clipped ones, and the canvas (FORMAT 6)
 abbrev lasting : Option ℕ → List ℕ
 lasting none = 0 ∷ []
 lasting (some d) = 1 ∷ d ∷ []
 
+abbrev timed : Option ℤ → List ℕ
+timed none = 0 ∷ []
+timed (some z) = 1 ∷ whole z
+
 abbrev pub shows : Shown → List ℕ
 shows s =
-    whole (s .start) ++ lasting (s .duration) ++ s .start-delay ∷ s .stop-delay ∷ s .x1 ∷ s .y1 ∷ s .width ∷ s .height
-    ∷ s .codes ∷ s .clipped ∷ []
+    whole (s .start) ++ lasting (s .duration) ++ s .start-delay ∷ s .stop-delay
+    ∷ cond (s .started) 1 0 ∷ cond (s .stopped) 1 0 ∷ timed (s .show) ++ timed (s .hide)
+    ++ s .x1 ∷ s .y1 ∷ s .width ∷ s .height ∷ s .codes ∷ s .clipped ∷ []
 
 unfoldable pub cue : List ℕ → List ℕ → Lent → List ℕ
 cue text file b = outcome (λ r. shows (shown r) ++ canvasOf r) (readingIn text file (wanted 0 0) b)
@@ -286,7 +296,8 @@ small-title = card (title small-text small-file) (99 ∷ 117 ∷ 101 ∷ 115 ∷
 unfoldable pub small-painted : Card
 small-painted =
     card (cue small-text small-file (lent [] (replicate 4 9) [] (replicate 16 9)))
-    (0 ∷ 0 ∷ 1000000 ∷ 0 ∷ 0 ∷ 0 ∷ 0 ∷ 0 ∷ 2 ∷ 2 ∷ 3 ∷ 0 ∷ 0 ∷ 0 ∷ 0 ∷ 255 ∷ 0 ∷ 0 ∷ 0 ∷ 255 ∷ 0 ∷ 0 ∷ 0 ∷ 255 ∷ 0 ∷ 0 ∷ 0 ∷ 255 ∷ [])
+    (0 ∷ 0 ∷ 1000000 ∷ 0 ∷ 0 ∷ 0 ∷ 1 ∷ 0 ∷ 1 ∷ 0 ∷ 1000000 ∷ 0 ∷ 0 ∷ 0 ∷ 2 ∷ 2 ∷ 3 ∷ 0
+    ∷ 0 ∷ 0 ∷ 0 ∷ 255 ∷ 0 ∷ 0 ∷ 0 ∷ 255 ∷ 0 ∷ 0 ∷ 0 ∷ 255 ∷ 0 ∷ 0 ∷ 0 ∷ 255 ∷ [])
 
 -- both with an index of no bytes: `cues 1` and `0 0 - 0 0 2 2 0 0 3`, and the canvas in greys
 unfoldable pub alone-title : Card
@@ -298,8 +309,20 @@ alone-title =
 unfoldable pub alone-painted : Card
 alone-painted =
     card (cue [] small-file (lent [] (replicate 4 9) [] (replicate 16 9)))
-    (0 ∷ 0 ∷ 0 ∷ 0 ∷ 0 ∷ 0 ∷ 0 ∷ 0 ∷ 2 ∷ 2 ∷ 3 ∷ 0
+    (0 ∷ 0 ∷ 0 ∷ 0 ∷ 0 ∷ 0 ∷ 1 ∷ 0 ∷ 1 ∷ 0 ∷ 0 ∷ 0 ∷ 0 ∷ 0 ∷ 2 ∷ 2 ∷ 3 ∷ 0
     ∷ 17 ∷ 17 ∷ 17 ∷ 255 ∷ 17 ∷ 17 ∷ 17 ∷ 255 ∷ 51 ∷ 51 ∷ 51 ∷ 255 ∷ 34 ∷ 34 ∷ 34 ∷ 255 ∷ [])
+
+-- a unit that starts a tick after its cue's start and stops nine ticks after it: 1 by 1, shown at 1011377 and hidden
+-- at 1102400
+unfoldable pub timed-file : List ℕ
+timed-file =
+    0x00 ∷ 0x10 ∷ 0x00 ∷ 0x04 ∷ 0x00 ∷ 0x01 ∷ 0x00 ∷ 0x0A ∷ 0x01 ∷ 0xFF ∷ 0x00 ∷ 0x09 ∷ 0x00 ∷ 0x0A ∷ 0x02 ∷ 0xFF ∷ []
+
+unfoldable pub timed-painted : Card
+timed-painted =
+    card (cue small-text timed-file (lent [] (9 ∷ []) [] (replicate 4 9)))
+    (0 ∷ 0 ∷ 1000000 ∷ 0 ∷ 1 ∷ 9 ∷ 1 ∷ 1 ∷ 1 ∷ 0 ∷ 1011377 ∷ 1 ∷ 0 ∷ 1102400 ∷ 0 ∷ 0 ∷ 1 ∷ 1 ∷ 1 ∷ 0
+    ∷ 0 ∷ 0 ∷ 0 ∷ 0 ∷ [])
 
 -- 2562047788 hours in a timestamp, and one hour more
 unfoldable pub hours-stand : Card
@@ -310,4 +333,5 @@ hours-leave = card (stamped 57) (8 ∷ [])
 
 -- all of them
 abbrev pub table : List Card
-table = hours-stand ∷ hours-leave ∷ small-painted ∷ small-title ∷ alone-painted ∷ alone-title ∷ bytes ++ lines
+table =
+    hours-stand ∷ hours-leave ∷ small-painted ∷ small-title ∷ alone-painted ∷ alone-title ∷ timed-painted ∷ bytes ++ lines

@@ -1,24 +1,26 @@
 -- The final theorems. Each takes what the contract of a function says, an equation for its answer and for the last content of what was lent, and
 -- gives what that means in the grammar's words. Assumes nothing.
-use Prim.Native.Nat.{ℕ, _+_, _*_, _≤_, _<_, min}
+use Prim.Native.Nat.{ℕ, _+_, _*_, _/_, _≤_, _<_, min}
 use mathlib.Core.Path.{_≡_}
 use mathlib.Core.Bool.{Bool, true, false}
 use mathlib.Core.Logic.{_↔_}
-use mathlib.Core.Option.{none}
+use mathlib.Core.Option.{some, none}
 use mathlib.Core.List.{List, []}
 use lib.ListN.{length, getD, set, replicate}
 use lib.Seq.{sets}
-use lib.IntN.{ℤ, pos}
-use Rattle.outcome.specs.Outcome.{short-cues, no-cue}
+use lib.IntN.{ℤ, pos, _+ℤ_}
+use Rattle.outcome.specs.Outcome.{refuse, short-cues, no-cue, long-instant}
+use Rattle.grammar.specs.Bytes.{byte}
 use Rattle.grammar.specs.Bands.{Band, Bands}
 use Rattle.grammar.specs.IndexParts.{blank, All}
 use Rattle.grammar.specs.Index.{greys, ListedText, of-lines, no-bytes, IsText}
-use Rattle.grammar.specs.IndexCues.{Cue, cuesOf, paletteOf, hasPalette}
+use Rattle.grammar.specs.IndexCues.{Cue, cuesOf, cueAt, paletteOf, hasPalette}
 use Rattle.grammar.specs.Packets.{Packet, Form, IsForm, unitOf, streamId, top-stream}
 use Rattle.grammar.specs.Picture.{ListedUnit, IsUnit}
 use Rattle.grammar.specs.Pixels.{clippedIn}
-use Rattle.grammar.specs.Record.{width}
-use Rattle.grammar.specs.Reading.{Wanted, wantedId, Reading, IsReading, toldBy, shown, unitCanvas, canvasOf}
+use Rattle.grammar.specs.Record.{given, width}
+use Rattle.grammar.specs.Times.{TimeStays}
+use Rattle.grammar.specs.Reading.{Wanted, wantedId, Reading, IsReading, toldBy, readingStart, showOf, hideOf, shown, unitCanvas, canvasOf}
 use Rattle.grammar.specs.Streams.{Walk, Alike}
 use Rattle.grammar.specs.Rows.{Code, run, fills, paints, overshoots, FieldRows}
 use Rattle.grammar.proofs.Unique.{field-unique, bands-unique}
@@ -26,7 +28,9 @@ use Rattle.grammar.proofs.UniqueControl.{unit-unique}
 use Rattle.grammar.proofs.UniqueIndex.{text-unique}
 use Rattle.grammar.proofs.UniquePackets.{form-unique}
 use Rattle.grammar.proofs.Clipped.{clipped-paints, clipped-cut, unclipped-whole, clipped-reading-most}
+use Rattle.grammar.proofs.Times.{shown-at, hidden-at, not-shown, not-hidden, times-stay}
 use Rattle.grammar.proofs.Streams.{walk-same}
+use Rattle.clock_model.specs.Answers.{micros, timeOr0}
 use Rattle.grammar.proofs.NoBytes.{no-bytes-listed, only-no-bytes, no-bytes-reading, no-bytes-read, grey-entries, grey-rule, bytes-black}
 use Rattle.rle_model.specs.declared.FieldAnswer.{FieldAnswer}
 use Rattle.rle_model.specs.Answers as field
@@ -62,10 +66,11 @@ use Rattle.demo_model.proofs.Claim as demo-proof
 use Rattle.vobsub_model.specs.declared.Shown.{Shown}
 use Rattle.vobsub_model.specs.declared.CanvasAnswer.{CanvasAnswer}
 use Rattle.vobsub_model.specs.declared.CanvasAnswer.the-variants as canvas-answer
-use Rattle.vobsub_model.specs.Call.{Lent}
+use Rattle.vobsub_model.specs.Call.{Lent, listedIn}
 use Rattle.vobsub_model.specs.Answers.{CuePainted}
-use Rattle.vobsub_model.specs.Claim.{Exactly, Undisturbed}
+use Rattle.vobsub_model.specs.Claim.{Room, Exactly, Undisturbed}
 use Rattle.vobsub_model.proofs.Claim as vobsub-proof
+use Rattle.vobsub_model.proofs.Late.{earlier, late-listed}
 use Rattle.vobsub_model.proofs.Streams as vobsub-streams
 use Rattle.vobsub_model.proofs.NoBytes.{painted-grey}
 use Rattle.listing_model.specs.Title.{formFor, cueLine}
@@ -95,6 +100,46 @@ a-clipped-code left c h = (clipped-paints left c h, clipped-cut left c h)
 
 pub an-unclipped-run : (left : ℕ) (c : Code) → fills c ≡ false → overshoots left c ≡ false → paints left c ≡ run c
 an-unclipped-run = unclipped-whole
+
+-- Show and hide times (`decode_cue`): whether a start and a stop command stand, and both times, are the reading's. The
+-- show time is the cue's start and the converted delay of the first start after it, the hide time goes by the last
+-- stop; without a start there is neither, without a stop no hide time. Each stays in signed 64 bits: where text, cue,
+-- stream, position, form, unit and room are in order 33 is returned exactly where one leaves, and where one of them is
+-- not (`listedIn` refuses) its refusal keeps its number.
+pub show-and-hide : (text file : List ℕ) (q : Wanted) (b : Lent) (r : CanvasAnswer) (b′ : Lent)
+    → CuePainted text file q b r b′ → (s : Shown) → r ≡ canvas-answer.Paints s → (x : Reading) → IsReading text file q x
+    → (s .started ≡ given (toldBy x .starts)) × (s .stopped ≡ given (toldBy x .stops))
+    × (s .show .0 ≡ timeOr0 (showOf x)) × (s .hides ≡ given (hideOf x)) × (s .hide .0 ≡ timeOr0 (hideOf x))
+show-and-hide text file q b r b′ d s p x h = vobsub-proof.shown-times text file q b r b′ d s p x h
+
+pub a-show-time : (x : Reading) (d : ℕ) → toldBy x .starts ≡ some d
+    → showOf x ≡ some (readingStart x +ℤ pos (d * 102400 / 9))
+a-show-time = shown-at
+
+pub a-hide-time : (x : Reading) (d e : ℕ) → toldBy x .starts ≡ some d → toldBy x .stops ≡ some e
+    → hideOf x ≡ some (readingStart x +ℤ pos (e * 102400 / 9))
+a-hide-time = hidden-at
+
+pub never-shown : (x : Reading) → toldBy x .starts ≡ none → (showOf x ≡ none) × (hideOf x ≡ none)
+never-shown = not-shown
+
+pub never-hidden : (x : Reading) → toldBy x .stops ≡ none → hideOf x ≡ none
+never-hidden = not-hidden
+
+pub times-in-64-bits : (text file : List ℕ) (q : Wanted) (x : Reading) → IsReading text file q x
+    → TimeStays (shown x .show) × TimeStays (shown x .hide)
+times-in-64-bits = times-stay
+
+pub refused-33 : (text file : List ℕ) (q : Wanted) (b : Lent) (r : CanvasAnswer) (b′ : Lent)
+    → CuePainted text file q b r b′ → (x : Reading) (c : Cue) → IsText text (x .text) → x .cue ≡ q .cue
+    → q .stream ≤ top-stream → cueAt (cuesOf (x .text)) (x .cue) ≡ some c → c .position < length file
+    → IsForm (wantedId q) file (c .position) (x .form) → IsUnit (unitOf (x .form)) (x .unit) → Room x b
+    → (r ≡ canvas-answer.Refused long-instant) ↔ (TimeStays (showOf x) × TimeStays (hideOf x) → ⊥)
+refused-33 = late-listed
+
+pub refused-before-33 : (text file : List ℕ) (q : Wanted) (b : Lent) (r : CanvasAnswer) (b′ : Lent)
+    → CuePainted text file q b r b′ → (n : ℕ) → listedIn text file q b ≡ refuse n → r ≡ canvas-answer.Refused n
+refused-before-33 = earlier
 
 -- Other streams (`decode_cue`, `extract_spu`, `cue_line`): a file that differs in packets of other streams alone, among
 -- those walked from the cue's position, gives the same readings, the same answer and the same buffers. Every place has
@@ -187,10 +232,10 @@ pub its-cue : (r : CueAnswer) → r ≡ cueAnswer (pickOf (idxOf []) 0)
     → r
     ≡ record {
       refused = 0;
-      start = pos 0;
+      start = micros (pos 0);
       position = 0;
       «has_duration» = false;
-      duration = 0;
+      duration = micros (pos 0);
       «has_palette» = false;
       palette = greys;
     }
@@ -206,12 +251,13 @@ its-readings = no-bytes-reading
 
 pub every-front-unit : (file : List ℕ) (q : Wanted) (m : Form) (u : ListedUnit)
     → q .cue ≡ 0 → q .stream ≤ top-stream → 0 < length file → IsForm (wantedId q) file 0 m → IsUnit (unitOf m) u
+    → ((i : ℕ) → byte file i < 256)
     → IsReading [] file q (record { text = no-bytes greys; cue = 0; form = m; unit = u })
 every-front-unit = no-bytes-read
 
 pub an-empty-index-painted : (file : List ℕ) (q : Wanted) (b : Lent) (r : CanvasAnswer) (b′ : Lent)
     → CuePainted [] file q b r b′ → (s : Shown) → r ≡ canvas-answer.Paints s
-    → (q .cue ≡ 0) × (s .start ≡ pos 0) × (s .«has_duration» ≡ false)
+    → (q .cue ≡ 0) × (s .start .0 ≡ pos 0) × (s .«has_duration» ≡ false)
     × ((m : Form) × (u : ListedUnit) × IsForm (wantedId q) file 0 m × IsUnit (unitOf m) u
     × (b′ .canvas ≡ sets (b .canvas) 0 (unitCanvas greys u)))
 an-empty-index-painted = painted-grey

@@ -1,6 +1,7 @@
 // The control blocks of a unit: a chain of blocks whose commands say when, where and in which colours its picture is shown
 // (docs/FORMAT.md, section 3). One record holds what they say.
 use bands_model::BandAnswer;
+use clock_model::Ticks;
 use control_model::CommandAnswer;
 use control_model::ControlAnswer;
 use control_model::Spu;
@@ -74,9 +75,10 @@ fn with_start(spu: Spu, delay: u16) -> Spu
     if spu.started {
         return spu;
     }
+    let ticks = Ticks(delay);
     let mut s = spu;
     s.started = true;
-    s.start_delay_raw = delay;
+    s.start_delay_raw = ticks;
     s
 }
 
@@ -92,9 +94,10 @@ fn with_forced_start(spu: Spu, delay: u16) -> Spu
 fn with_stop(spu: Spu, delay: u16) -> Spu
     ensures { λ r. ⌜ ((t : Told) → spu ≡ spuOf t nothing → r ≡ spuOf (tell delay stop t) nothing) ⌝ }
 {
+    let ticks = Ticks(delay);
     let mut s = spu;
     s.stopped = true;
-    s.stop_delay_raw = delay;
+    s.stop_delay_raw = ticks;
     s
 }
 
@@ -289,9 +292,9 @@ fn read_chain(unit: &[u8], end: usize, from: usize) -> ControlAnswer
         palette_sel: 0,
         alpha: 0,
         started: false,
-        start_delay_raw: 0,
+        start_delay_raw: Ticks(0),
         stopped: false,
-        stop_delay_raw: 0,
+        stop_delay_raw: Ticks(0),
         forced_display: false,
         top_rle_off: 0,
         bot_rle_off: 0,

@@ -1,13 +1,11 @@
 -- Closed inputs on which each edit of this crate's definitions gives another value. Assumes nothing.
 use mathlib.Core.Path.{_≡_, refl}
-use mathlib.Core.Bool.{true, false}
-use mathlib.Core.Option.{some, none}
+use mathlib.Core.Option.{some}
 use mathlib.Core.List.{[], _∷_}
 use Rattle.grammar.specs.Bytes.{word, nibble, nibbles}
 use Rattle.grammar.specs.Control.{start, area, offsets}
 use Rattle.control_model.specs.Fold.{untold, tell}
 use Rattle.control_model.specs.Chain.{areaAt, offsetsAt}
-use Rattle.control_model.specs.Answers.{given}
 
 -- columns 1 to 2, and lines 3 to 4
 pub area-read : areaAt (0x00 ∷ 0x10 ∷ 0x02 ∷ 0x00 ∷ 0x30 ∷ 0x04 ∷ []) 0 ≡ area 1 2 3 4
@@ -23,7 +21,3 @@ offsets-read = refl
 pub first-start : tell 9 start (tell 7 start untold) .starts ≡ some 7
 unfolding untold
 first-start = refl
-
--- a delay of 0 is one that is given
-pub delay-given : (given none ≡ false) × (given (some 0) ≡ true)
-delay-given = (refl, refl)

@@ -7,3 +7,4 @@ pub mod Loops
 pub mod Refusals
 pub mod Fill
 pub mod Cards
+pub mod Clock

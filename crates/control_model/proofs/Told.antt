@@ -12,23 +12,24 @@ use mathlib.Core.List.{List, _++_}
 use lib.ListN.{length, length-append}
 use Rattle.grammar.specs.Bands.{Band, bandWords}
 use Rattle.grammar.specs.Control.{Order, sizeOf, forced-start, start, stop, selectors, alphas, area, offsets, colours}
-use Rattle.grammar.specs.Record.{Told, delayOf}
+use Rattle.grammar.specs.Record.{Told, given, delayOf}
+use Rattle.clock_model.specs.Answers.{ticks}
 use Rattle.control_model.specs.Fold.{tell, first}
 use Rattle.bands_model.proofs.Loops.{words-join}
-use Rattle.control_model.specs.Answers.{given, spuOf}
+use Rattle.control_model.specs.Answers.{spuOf}
 use Rattle.control_model.specs.declared.Spu.{Spu}
 use Rattle.rle_model.specs.Answers.{nothing}
 
 -- ---- A record with other values
 
 abbrev pub startSet : Bool → ℕ → Spu → Spu
-startSet b d s = record { x1 = s .x1; y1 = s .y1; x2 = s .x2; y2 = s .y2; «palette_sel» = s .«palette_sel»; alpha = s .alpha; started = b; «start_delay_raw» = d; stopped = s .stopped; «stop_delay_raw» = s .«stop_delay_raw»; «forced_display» = s .«forced_display»; «top_rle_off» = s .«top_rle_off»; «bot_rle_off» = s .«bot_rle_off»; «saw_chg_colcon» = s .«saw_chg_colcon»; «band_words» = s .«band_words»; codes = s .codes; clipped = s .clipped }
+startSet b d s = record { x1 = s .x1; y1 = s .y1; x2 = s .x2; y2 = s .y2; «palette_sel» = s .«palette_sel»; alpha = s .alpha; started = b; «start_delay_raw» = ticks d; stopped = s .stopped; «stop_delay_raw» = s .«stop_delay_raw»; «forced_display» = s .«forced_display»; «top_rle_off» = s .«top_rle_off»; «bot_rle_off» = s .«bot_rle_off»; «saw_chg_colcon» = s .«saw_chg_colcon»; «band_words» = s .«band_words»; codes = s .codes; clipped = s .clipped }
 
 abbrev pub forcedSet : Spu → Spu
 forcedSet s = record { x1 = s .x1; y1 = s .y1; x2 = s .x2; y2 = s .y2; «palette_sel» = s .«palette_sel»; alpha = s .alpha; started = s .started; «start_delay_raw» = s .«start_delay_raw»; stopped = s .stopped; «stop_delay_raw» = s .«stop_delay_raw»; «forced_display» = true; «top_rle_off» = s .«top_rle_off»; «bot_rle_off» = s .«bot_rle_off»; «saw_chg_colcon» = s .«saw_chg_colcon»; «band_words» = s .«band_words»; codes = s .codes; clipped = s .clipped }
 
 abbrev pub stopSet : ℕ → Spu → Spu
-stopSet d s = record { x1 = s .x1; y1 = s .y1; x2 = s .x2; y2 = s .y2; «palette_sel» = s .«palette_sel»; alpha = s .alpha; started = s .started; «start_delay_raw» = s .«start_delay_raw»; stopped = true; «stop_delay_raw» = d; «forced_display» = s .«forced_display»; «top_rle_off» = s .«top_rle_off»; «bot_rle_off» = s .«bot_rle_off»; «saw_chg_colcon» = s .«saw_chg_colcon»; «band_words» = s .«band_words»; codes = s .codes; clipped = s .clipped }
+stopSet d s = record { x1 = s .x1; y1 = s .y1; x2 = s .x2; y2 = s .y2; «palette_sel» = s .«palette_sel»; alpha = s .alpha; started = s .started; «start_delay_raw» = s .«start_delay_raw»; stopped = true; «stop_delay_raw» = ticks d; «forced_display» = s .«forced_display»; «top_rle_off» = s .«top_rle_off»; «bot_rle_off» = s .«bot_rle_off»; «saw_chg_colcon» = s .«saw_chg_colcon»; «band_words» = s .«band_words»; codes = s .codes; clipped = s .clipped }
 
 abbrev pub selectorsSet : ℕ → Spu → Spu
 selectorsSet w s = record { x1 = s .x1; y1 = s .y1; x2 = s .x2; y2 = s .y2; «palette_sel» = w; alpha = s .alpha; started = s .started; «start_delay_raw» = s .«start_delay_raw»; stopped = s .stopped; «stop_delay_raw» = s .«stop_delay_raw»; «forced_display» = s .«forced_display»; «top_rle_off» = s .«top_rle_off»; «bot_rle_off» = s .«bot_rle_off»; «saw_chg_colcon» = s .«saw_chg_colcon»; «band_words» = s .«band_words»; codes = s .codes; clipped = s .clipped }

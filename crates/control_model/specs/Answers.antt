@@ -1,13 +1,12 @@
 -- What each answer of the code means: the record of what was told, or the number of the refusal. Assumes nothing: these are definitions.
 use Prim.Native.Nat.{ℕ, _+_}
-use mathlib.Core.Bool.{Bool, true, false}
-use mathlib.Core.Option.{Option, some, none}
 use mathlib.Core.List.{List}
 use lib.ListN.{length}
 use Rattle.outcome.specs.Outcome.{Res, ok, refuse}
 use Rattle.grammar.specs.Bands.{bandWords}
 use Rattle.grammar.specs.Control.{Order, sizeOf, Command, Block}
-use Rattle.grammar.specs.Record.{Told, delayOf}
+use Rattle.grammar.specs.Record.{Told, given, delayOf}
+use Rattle.clock_model.specs.Answers.{ticks}
 use Rattle.control_model.specs.Fold.{untold, tell, tellBlock, tellChain}
 use Rattle.control_model.specs.Chain.{controlAt}
 use Rattle.control_model.specs.declared.Spu.{Spu}
@@ -17,10 +16,6 @@ use Rattle.control_model.specs.declared.ControlAnswer.{ControlAnswer}
 use Rattle.control_model.specs.declared.ControlAnswer.the-variants as control-answer
 use Rattle.rle_model.specs.declared.Counts.{Counts}
 use Rattle.rle_model.specs.Answers.{nothing}
-
-abbrev pub given : Option ℕ → Bool
-given none = false
-given (some d) = true
 
 -- the record of what was told, with what rows count: a delay that was not told is 0 (FORMAT 3.6)
 unfoldable pub spuOf : Told → Counts → Spu
@@ -33,9 +28,9 @@ spuOf t n =
       «palette_sel» = t .selected;
       alpha = t .alpha;
       started = given (t .starts);
-      «start_delay_raw» = delayOf (t .starts);
+      «start_delay_raw» = ticks (delayOf (t .starts));
       stopped = given (t .stops);
-      «stop_delay_raw» = delayOf (t .stops);
+      «stop_delay_raw» = ticks (delayOf (t .stops));
       «forced_display» = t .forced;
       «top_rle_off» = t .fields .top;
       «bot_rle_off» = t .fields .bottom;

@@ -1,5 +1,7 @@
 // Control blocks without their functions: the record `Spu`, the answers, the definitions and their laws, and the words of all bands of a unit.
 
+use clock_model::Ticks;
+
 // The record of a unit, by the names of the original.
 pub struct Spu {
     // The wide numbers come first and the flags last, so that no byte of the record is unused: unused ones would be
@@ -21,8 +23,8 @@ pub struct Spu {
     pub alpha: u16,
     // The delay words of two blocks: of the one whose start command, forced or not, comes before every other, and of the one whose stop command
     // comes after every other.
-    pub start_delay_raw: u16,
-    pub stop_delay_raw: u16,
+    pub start_delay_raw: Ticks,
+    pub stop_delay_raw: Ticks,
     // Where the two fields start in the unit.
     pub top_rle_off: u16,
     pub bot_rle_off: u16,

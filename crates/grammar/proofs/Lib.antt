@@ -14,5 +14,6 @@ pub mod Edges
 pub mod Lengths
 pub mod Clipped
 pub mod IndexCards
+pub mod Times
 pub mod NoBytes
 pub mod PaintCards

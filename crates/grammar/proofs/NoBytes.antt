@@ -12,15 +12,19 @@ use lib.Dec.{ltb, leb, eqb}
 use lib.IntN.{pos}
 use lib.ListN.{length, getD, take, drop, replicate}
 use borrow.Author.Tests.{lt-ltb, leb-true, eqb-true}
+use Rattle.grammar.specs.Bytes.{byte}
 use Rattle.grammar.specs.Parts.{Part}
 use Rattle.grammar.specs.IndexParts.{blank, line-end, All, Trimmed, Parted}
 use Rattle.grammar.specs.Index.{Said, size, palette, timestamp, SaysNothing, LinesListed, greysFrom, greys, ListedText, of-lines, no-bytes, IsText}
 use Rattle.grammar.specs.IndexCues.{Cue, coloursOf, paletteFrom, first-palette, linesHavePalette, cuesOf, paletteOf, hasPalette, displaySize, sizeIs, cueAt, durationOf}
 use Rattle.grammar.specs.Packets.{Form, IsForm, unitOf, top-stream}
+use Rattle.grammar.specs.Record.{told}
 use Rattle.grammar.specs.Picture.{ListedUnit, IsUnit}
 use Rattle.grammar.specs.Reading.{Wanted, wantedId, Reading, IsReading, startAt, shown, unitCanvas, canvasOf}
 use Rattle.grammar.proofs.UniqueParts.{never, not-empty, has-byte, all-front, all-rest}
 use Rattle.grammar.proofs.UniqueIndex.{text-unique}
+use Rattle.grammar.proofs.PacketParts.{low-unit}
+use Rattle.grammar.proofs.Times.{told-words, from-0}
 
 -- ---- What it gives
 
@@ -191,12 +195,15 @@ no-bytes-reading file q x h =
       ap (λ (t : ListedText). unitCanvas (paletteOf t) (x .unit)) e,
     )
 
--- and every unit there has one
+-- and in a file of bytes every unit there has one: from time 0 on no time leaves
 pub no-bytes-read : (file : List ℕ) (q : Wanted) (m : Form) (u : ListedUnit)
     → q .cue ≡ 0 → q .stream ≤ top-stream → 0 < length file → IsForm (wantedId q) file 0 m → IsUnit (unitOf m) u
+    → ((i : ℕ) → byte file i < 256)
     → IsReading [] file q (record { text = no-bytes greys; cue = 0; form = m; unit = u })
 unfolding cueAt
-no-bytes-read file q m u c s l f h =
+no-bytes-read file q m u c s l f h low =
+    let w = told-words (unitOf m) (low-unit (wantedId q) file low 0 m f) (u .blocks) (h .chain) in
+    let t = from-0 (told (u .blocks) .starts) (told (u .blocks) .stops) (w .0) (w .1) in
     record {
       text-is = (refl, refl);
       cue-is = sym c;
@@ -206,4 +213,6 @@ no-bytes-read file q m u c s l f h =
       before-end = l;
       form-is = f;
       unit-is = h;
+      show-stays = t .0;
+      hide-stays = t .1;
     }

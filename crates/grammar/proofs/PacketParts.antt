@@ -1,15 +1,16 @@
 -- Where the parts of a packet stand, and what finds a body. Assumes nothing.
-use Prim.Native.Nat.{ℕ, _+_, _-_, _≤_, _<_}
+use Prim.Native.Nat.{ℕ, zero, suc, _+_, _-_, _≤_, _<_}
 use native.Mathlib.Nat.{add-zero}
 use native.Mathlib.Omega.{arith}
-use mathlib.Core.Path.{_≡_, sym, ap, _∙_}
+use mathlib.Core.Path.{_≡_, sym, ap, _∙_, subst}
 use mathlib.Core.Bool.{Bool}
 use mathlib.Core.Logic.{_⊎_, inl, inr, ⊎-elim}
-use mathlib.Core.List.{List}
-use lib.ListN.{length, take}
+use mathlib.Core.Option.{Option, some, none}
+use mathlib.Core.List.{List, [], _∷_, _++_}
+use lib.ListN.{length, take, drop}
 use lib.Seq.{slice, ext-getD, length-slice, getD-drop, getD-take}
 use Rattle.grammar.specs.Bytes.{byte, word}
-use Rattle.grammar.specs.Packets.{Packet, Stuffing, bufferSize, stampSize, Header2, Header1, IsBody, IsPack, IsPrivate, IsOther, IsPacket, Bare}
+use Rattle.grammar.specs.Packets.{Part, Packet, Stuffing, bufferSize, stampSize, Header2, Header1, IsBody, Keeps, IsPack, IsPrivate, IsOther, IsPacket, keptBytes, joined, Packets, Bare, Form, bare, packets, unitOf, IsForm}
 
 pub byte-slice : (f : List ℕ) (a e i : ℕ) → a + i < e → byte (slice a e f) i ≡ byte f (a + i)
 byte-slice f a e i l = getD-drop a (take e f) i 0 ∙ getD-take e f (a + i) 0 l
@@ -113,3 +114,49 @@ module _ (f g : List ℕ) where
       let k : IsBody f a (a + (e - a)) (a + (b - a)) = rw (y, z) t in
       let o = body-moves f a g a (e - a) (b - a) (λ i u v. h (a + i) (omega arith) (omega arith) (omega arith)) k in
       rw (y, z) at o
+
+-- ---- In a file of bytes every unit is of bytes
+
+abbrev pub Low : List ℕ → Type 0
+Low s = (i : ℕ) → byte s i < 256
+
+low-take : (n : ℕ) (s : List ℕ) → Low s → Low (take n s)
+low-take zero s h i = omega arith
+low-take (suc n) [] h i = omega arith
+low-take (suc n) (b ∷ s) h zero = h 0
+low-take (suc n) (b ∷ s) h (suc i) = low-take n s (λ j. h (suc j)) i
+
+low-drop : (n : ℕ) (s : List ℕ) → Low s → Low (drop n s)
+low-drop n s h i = rw (getD-drop n s i 0) (h (n + i))
+
+low-both : (s t : List ℕ) → Low s → Low t → Low (s ++ t)
+low-both [] t h k i = k i
+low-both (b ∷ s) t h k zero = h 0
+low-both (b ∷ s) t h k (suc i) = low-both s t (λ j. h (suc j)) k i
+
+module _ (id : ℕ → Bool) (f : List ℕ) (low : Low f) where
+  low-slice : (a e : ℕ) → Low (slice a e f)
+  low-slice a e = low-drop a (take e f) (low-take e f low)
+
+  low-kept : (b e : ℕ) (o : Option Part) → Keeps id f b e o → Low (keptBytes o)
+  low-kept b e none h = λ i. omega arith
+  low-kept b e (some p) h = subst Low (sym (h .2 .bytes-are)) (low-slice (b + 1) e)
+
+  low-none : (o : Option Part) → o ≡ none → Low (keptBytes o)
+  low-none o e = subst (λ (x : Option Part). Low (keptBytes x)) (sym e) (λ i. omega arith)
+
+  low-packet : (p : Packet) → IsPack f p ⊎ (IsPrivate id f p ⊎ IsOther f p) → Low (keptBytes (p .kept))
+  low-packet p (inl k) = low-none (p .kept) (k .1)
+  low-packet p (inr (inl k)) = low-kept (k .start) (p .end) (p .kept) (k .keeps)
+  low-packet p (inr (inr k)) = low-none (p .kept) (k .keeps-nothing)
+
+  low-joined : (at : ℕ) (k : List ℕ) (ps : List Packet) → Packets id f at k ps → Low (joined ps)
+  unfolding Packets joined
+  low-joined at k [] h = λ i. omega arith
+  low-joined at k (p ∷ ps) h =
+      low-both (keptBytes (p .kept)) (joined ps) (low-packet p (h .2 .kind)) (low-joined (p .end) (k ++ keptBytes (p .kept)) ps (h .3))
+
+  pub low-unit : (at : ℕ) (m : Form) → IsForm id f at m → Low (unitOf m)
+  unfolding unitOf
+  low-unit at (bare p) h = subst Low (sym (h .1 .bytes-are)) (low-slice at (at + word f at))
+  low-unit at (packets ps) h = low-take (word (joined ps) 0) (joined ps) (low-joined at [] ps (h .1))

@@ -3,6 +3,7 @@
 -- table. Assumes nothing.
 use Prim.Native.Nat.{ℕ, _*_, _+_}
 use mathlib.Core.Path.{_≡_, refl}
+use mathlib.Core.Bool.{cond}
 use mathlib.Core.Option.{Option, some, none}
 use mathlib.Core.List.{List, [], _∷_, map, _++_}
 use lib.IntN.{ℤ, pos, negsuc}
@@ -88,8 +89,15 @@ abbrev lasting : Option ℕ → ℕ
 lasting none = 0
 lasting (some d) = d
 
+-- a time, if there is one, and whether a command stands
+abbrev time : Option ℤ → List ℕ
+time none = []
+time (some z) = number z
+
 abbrev listing : Shown → List ℕ
-listing s = number (s .start) ++ lasting (s .duration) ∷ s .start-delay ∷ s .stop-delay ∷ s .x1 ∷ s .y1 ∷ s .width ∷ s .height ∷ s .codes ∷ s .clipped ∷ []
+listing s =
+    number (s .start) ++ lasting (s .duration) ∷ s .start-delay ∷ s .stop-delay
+    ∷ cond (s .started) 1 0 ∷ cond (s .stopped) 1 0 ∷ time (s .show) ++ time (s .hide) ++ s .x1 ∷ s .y1 ∷ s .width ∷ s .height ∷ s .codes ∷ s .clipped ∷ []
 
 -- selectors and alphas at a place of the display
 abbrev at : ℕ → ℕ → List ℕ
@@ -122,8 +130,9 @@ cards =
     -- a line goes to the right, and lines go down, from an origin that is not 0 0
     ∷ card (lineBytes entries tells 1 2 (0 ∷ 0 ∷ [])) (20 ∷ 21 ∷ 22 ∷ 34 ∷ 30 ∷ 31 ∷ 32 ∷ 34 ∷ [])
     ∷ card (canvasBytes entries tells 1 2 ((0 ∷ 0 ∷ []) ∷ (0 ∷ 0 ∷ []) ∷ [])) (20 ∷ 21 ∷ 22 ∷ 34 ∷ 30 ∷ 31 ∷ 32 ∷ 34 ∷ 20 ∷ 21 ∷ 22 ∷ 51 ∷ 30 ∷ 31 ∷ 32 ∷ 51 ∷ [])
-    -- what the reading gives: of its four codes one is clipped
-    ∷ card (listing (shown reading)) (1 ∷ 3000000 ∷ 4000000 ∷ 11 ∷ 13 ∷ 7 ∷ 5 ∷ 3 ∷ 2 ∷ 4 ∷ 1 ∷ [])
+    -- what the reading gives: three times that differ, and of its four codes one that is clipped
+    ∷ card (listing (shown reading))
+    (1 ∷ 3000000 ∷ 4000000 ∷ 11 ∷ 13 ∷ 1 ∷ 1 ∷ 1 ∷ 3125155 ∷ 1 ∷ 3147911 ∷ 7 ∷ 5 ∷ 3 ∷ 2 ∷ 4 ∷ 1 ∷ [])
     ∷ card (mapOf reading) (3 ∷ 2 ∷ 1 ∷ 1 ∷ 1 ∷ 1 ∷ [])
     ∷ card (wordsOf reading) (5 ∷ 5 ∷ 1 ∷ 8 ∷ 0x3012 ∷ 0x1230 ∷ 5 ∷ 9 ∷ 1 ∷ 9 ∷ 0x2222 ∷ 0x0700 ∷ [])
     ∷ card (canvasOf reading)

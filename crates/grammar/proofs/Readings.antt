@@ -1,11 +1,12 @@
--- Three whole readings as closed terms, that they pass, and what they give: the 2 by 2 title, bare; its file with an
--- index of no bytes; and a title in packet form with a palette and a colour band (docs/GRAMMAR.md writes them out).
+-- Four whole readings as closed terms, that they pass, and what they give: the 2 by 2 title, bare; its file with an
+-- index of no bytes; a title in packet form with a palette and a colour band; and one that is shown and hidden
+-- (docs/GRAMMAR.md writes them out).
 -- Assumes nothing.
 use Prim.Native.Nat.{ℕ, _≤_}
 use native.Mathlib.Omega.{arith}
 use mathlib.Core.Path.{_≡_, refl}
 use mathlib.Core.Logic.{inl, inr}
-use mathlib.Core.Bool.{true}
+use mathlib.Core.Bool.{true, false}
 use mathlib.Core.Option.{some, none}
 use mathlib.Core.List.{List, [], _∷_, _++_}
 use lib.IntN.{pos}
@@ -16,7 +17,7 @@ use Rattle.grammar.specs.IndexNumbers.{isDigit, numeral, Hex}
 use Rattle.grammar.specs.Index.{Said, palette, startOf, top-token, Says, IsLines, greysFrom, greys, of-lines, no-bytes}
 use Rattle.grammar.specs.IndexCues.{cuesOfLines, coloursOf, paletteFrom, cueAt, durationOf}
 use Rattle.grammar.specs.Bands.{Band, Bands, Entries, entryWords, bandWords}
-use Rattle.grammar.specs.Control.{Order, start, selectors, alphas, area, offsets, colours, Command, Commands, Chain, IsChain}
+use Rattle.grammar.specs.Control.{Order, start, stop, selectors, alphas, area, offsets, colours, Command, Commands, Chain, IsChain}
 use Rattle.grammar.specs.Record.{told, commandsOf, commandsIn, firstDelay, lastDelay, lastNumbers, stands, allBands}
 use Rattle.grammar.specs.Look.{rightmost, lastLook, lookAt}
 use Rattle.grammar.specs.Rows.{code, paints, overshoots, RowCodes, afterCodes, align, FieldRows}
@@ -24,7 +25,8 @@ use Rattle.grammar.specs.Pixels.{rowPixels, codesIn, clippedRow, clipped
 use Rattle.grammar.specs.Picture.{evens, topEnd, Stay0, IsPicture, ListedUnit}
 use Rattle.grammar.specs.Packets.{Packet, streamId, joined, Packets, bare, packets, unitOf, IsForm}
 use Rattle.grammar.specs.Canvas.{coloured, pixel, lineBytes, canvasBytes}
-use Rattle.grammar.specs.Reading.{wanted, Reading, IsReading, shown, mapOf, wordsOf, unitCanvas, canvasOf}
+use Rattle.grammar.specs.Times.{TimeStays}
+use Rattle.grammar.specs.Reading.{wanted, Reading, showOf, hideOf, IsReading, shown, mapOf, wordsOf, unitCanvas, canvasOf}
 use Rattle.grammar.proofs.UniqueParts.{has-byte, head-same, tail-same}
 use Rattle.grammar.proofs.ReadingLine.{every, all-of, part, valued, line, said, says, trims}
 
@@ -124,6 +126,10 @@ small-picture =
       );
     }
 
+small-times : TimeStays (showOf small) × TimeStays (hideOf small)
+unfolding cuesOfLines cueAt startOf told commandsOf commandsIn firstDelay lastDelay lastNumbers stands allBands
+small-times = (omega arith, tt)
+
 -- a bare unit has no id: it is read for every stream
 pub small-passes : (s : ℕ) → s ≤ 31 → IsReading line small-file (wanted 0 s) small
 unfolding cuesOfLines cueAt startOf word unitOf
@@ -137,15 +143,34 @@ small-passes s h =
       before-end = omega arith;
       form-is = (record { four = omega arith; least = omega arith; fits = omega arith }, record { place-is = refl; bytes-are = refl });
       unit-is = record { chain = small-chain; picture = small-picture };
+      show-stays = small-times .0;
+      hide-stays = small-times .1;
     }
 
 -- and for none above 31
 small-32 : (x : Reading) → IsReading line small-file (wanted 0 32) x → ⊥
 small-32 x h = omega (arith, h .stream-is)
 
--- start 1000000, no duration, origin 0 0, 2 by 2, three codes and none clipped, map 1 1 2 3, no words, and a canvas of
--- black that is not transparent
-pub small-shown : shown small ≡ record { start = pos 1000000; duration = none; start-delay = 0; stop-delay = 0; x1 = 0; y1 = 0; width = 2; height = 2; codes = 3; clipped = 0 }
+-- start 1000000, no duration, shown at its start and never hidden, origin 0 0, 2 by 2, three codes and none clipped,
+-- map 1 1 2 3, no words, and a canvas of black that is not transparent
+pub small-shown :
+    shown small
+    ≡ record {
+      start = pos 1000000;
+      duration = none;
+      start-delay = 0;
+      stop-delay = 0;
+      started = true;
+      stopped = false;
+      show = some (pos 1000000);
+      hide = none;
+      x1 = 0;
+      y1 = 0;
+      width = 2;
+      height = 2;
+      codes = 3;
+      clipped = 0;
+    }
 unfolding shown cuesOfLines cueAt durationOf startOf codesIn clippedRow clippedIn overshoots paints told commandsOf commandsIn firstDelay lastDelay lastNumbers stands allBands
 small-shown = refl
 
@@ -166,6 +191,10 @@ small-canvas = refl
 abbrev pub alone : Reading
 alone = record { text = no-bytes greys; cue = 0; form = bare (part 0 small-file); unit = small-unit }
 
+alone-times : TimeStays (showOf alone) × TimeStays (hideOf alone)
+unfolding cueAt told commandsOf commandsIn firstDelay lastDelay lastNumbers stands allBands
+alone-times = (omega arith, tt)
+
 pub alone-passes : (s : ℕ) → s ≤ 31 → IsReading [] small-file (wanted 0 s) alone
 unfolding cueAt word unitOf
 alone-passes s h =
@@ -181,6 +210,8 @@ alone-passes s h =
         record { place-is = refl; bytes-are = refl },
       );
       unit-is = record { chain = small-chain; picture = small-picture };
+      show-stays = alone-times .0;
+      hide-stays = alone-times .1;
     }
 
 -- start 0, no duration, and all else as in the 2 by 2 title but for the canvas, in greys 1, 1, 3 and 2
@@ -191,6 +222,10 @@ pub alone-shown :
       duration = none;
       start-delay = 0;
       stop-delay = 0;
+      started = true;
+      stopped = false;
+      show = some (pos 0);
+      hide = none;
       x1 = 0;
       y1 = 0;
       width = 2;
@@ -437,6 +472,10 @@ packed-picture =
       bottom = inr (inl refl, tt);
     }
 
+packed-times : TimeStays (showOf packed) × TimeStays (hideOf packed)
+unfolding cuesOfLines cueAt startOf told commandsOf commandsIn firstDelay lastDelay lastNumbers stands allBands
+packed-times = (omega arith, tt)
+
 pub packed-passes : IsReading packed-text packed-file (wanted 0 0) packed
 unfolding cuesOfLines cueAt startOf word joined unitOf
 packed-passes =
@@ -449,10 +488,30 @@ packed-passes =
       before-end = omega arith;
       form-is = packed-form;
       unit-is = record { chain = packed-chain; picture = packed-picture };
+      show-stays = packed-times .0;
+      hide-stays = packed-times .1;
     }
 
--- the first pixel has the unit's own colours, the second, at column 5, the band's
-packed-shown : shown packed ≡ record { start = pos 1000000; duration = none; start-delay = 3; stop-delay = 0; x1 = 4; y1 = 2; width = 2; height = 1; codes = 2; clipped = 0 }
+-- shown three ticks after its start and never hidden; the first pixel has the unit's own colours, the second, at
+-- column 5, the band's
+packed-shown :
+    shown packed
+    ≡ record {
+      start = pos 1000000;
+      duration = none;
+      start-delay = 3;
+      stop-delay = 0;
+      started = true;
+      stopped = false;
+      show = some (pos 1034133);
+      hide = none;
+      x1 = 4;
+      y1 = 2;
+      width = 2;
+      height = 1;
+      codes = 2;
+      clipped = 0;
+    }
 unfolding shown cuesOfLines cueAt durationOf startOf codesIn clippedRow clippedIn overshoots paints told commandsOf commandsIn firstDelay lastDelay lastNumbers stands allBands
 packed-shown = refl
 
@@ -467,3 +526,129 @@ packed-words = refl
 packed-canvas : canvasOf packed ≡ 0x40 ∷ 0x50 ∷ 0x60 ∷ 0xFF ∷ 0x10 ∷ 0x20 ∷ 0x30 ∷ 0x88 ∷ []
 unfolding canvasOf unitCanvas coloursOf paletteFrom rowPixels paints canvasBytes lineBytes pixel coloured lookAt lastLook rightmost told commandsOf commandsIn firstDelay lastDelay lastNumbers stands allBands
 packed-canvas = refl
+
+-- ---- A title that is shown a tick after its cue's start and hidden nine ticks after it: 1 by 1, its field in the head
+
+abbrev pub timed-file : List ℕ
+timed-file =
+    0x00 ∷ 0x10 ∷ 0x00 ∷ 0x04
+    ∷ 0x00 ∷ 0x01 ∷ 0x00 ∷ 0x0A ∷ 0x01 ∷ 0xFF
+    ∷ 0x00 ∷ 0x09 ∷ 0x00 ∷ 0x0A ∷ 0x02 ∷ 0xFF
+    ∷ []
+
+abbrev timed-unit : ListedUnit
+timed-unit =
+    record {
+      blocks =
+          record { place = 4; delay = 1; next = 10; commands = command 8 start ∷ [] }
+          ∷ record { place = 10; delay = 9; next = 10; commands = command 14 stop ∷ [] }
+          ∷ [];
+      rows = (code 0 4 0x10 ∷ []) ∷ [];
+    }
+
+abbrev pub timed : Reading
+timed = record { text = of-lines (said 0 ∷ []); cue = 0; form = bare (part 0 timed-file); unit = timed-unit }
+
+timed-chain : IsChain timed-file (timed-unit .blocks)
+unfolding word nibble nibbles Commands Chain
+timed-chain =
+    record {
+      head = omega arith;
+      control = omega arith;
+      order = omega arith;
+      inside = omega arith;
+      chain = (
+        refl,
+        record {
+          within = omega arith;
+          delay-is = refl;
+          next-is = refl;
+          list = (refl, record { within = omega arith; coded = refl; says = tt }, inr (omega arith, refl));
+        },
+        inr (
+          omega arith,
+          (
+            refl,
+            record {
+              within = omega arith;
+              delay-is = refl;
+              next-is = refl;
+              list = (refl, record { within = omega arith; coded = refl; says = tt }, inr (omega arith, refl));
+            },
+            inl (omega arith, refl),
+          ),
+        ),
+      );
+    }
+
+timed-picture : IsPicture timed-file (told (timed-unit .blocks)) (timed-unit .rows)
+unfolding word nibble nibbles evens topEnd Stay0 FieldRows RowCodes afterCodes align paints told commandsOf commandsIn firstDelay lastDelay lastNumbers stands allBands
+timed-picture =
+    record {
+      wide = omega arith;
+      high = omega arith;
+      all = refl;
+      top = (
+        (
+          omega arith,
+          refl,
+          record { one = omega arith; four = omega arith; inside = omega arith; number = refl; most = omega arith; least = λ h. omega arith },
+          refl,
+        ),
+        tt,
+      );
+      bottom = inr (inl refl, tt);
+    }
+
+timed-times : TimeStays (showOf timed) × TimeStays (hideOf timed)
+unfolding cuesOfLines cueAt startOf told commandsOf commandsIn firstDelay lastDelay lastNumbers stands allBands
+timed-times = (omega arith, omega arith)
+
+pub timed-passes : IsReading line timed-file (wanted 0 0) timed
+unfolding cuesOfLines cueAt startOf word unitOf
+timed-passes =
+    record {
+      text-is = (has-byte _ _, small-text);
+      cue-is = refl;
+      stream-is = omega arith;
+      at = record { start = pos 1000000; position = 0 };
+      listed = refl;
+      before-end = omega arith;
+      form-is = (
+        record { four = omega arith; least = omega arith; fits = omega arith },
+        record { place-is = refl; bytes-are = refl },
+      );
+      unit-is = record { chain = timed-chain; picture = timed-picture };
+      show-stays = timed-times .0;
+      hide-stays = timed-times .1;
+    }
+
+-- the start, and two other times
+pub timed-shown :
+    shown timed
+    ≡ record {
+      start = pos 1000000;
+      duration = none;
+      start-delay = 1;
+      stop-delay = 9;
+      started = true;
+      stopped = true;
+      show = some (pos 1011377);
+      hide = some (pos 1102400);
+      x1 = 0;
+      y1 = 0;
+      width = 1;
+      height = 1;
+      codes = 1;
+      clipped = 0;
+    }
+unfolding shown cuesOfLines cueAt durationOf startOf codesIn clippedRow clippedIn overshoots paints told commandsOf commandsIn firstDelay lastDelay lastNumbers stands allBands
+timed-shown = refl
+
+pub timed-words : wordsOf timed ≡ []
+unfolding wordsOf bandWords told commandsOf commandsIn firstDelay lastDelay lastNumbers stands allBands
+timed-words = refl
+
+pub timed-canvas : canvasOf timed ≡ 0 ∷ 0 ∷ 0 ∷ 0 ∷ []
+unfolding canvasOf unitCanvas paletteFrom rowPixels paints canvasBytes lineBytes pixel coloured lookAt lastLook told commandsOf commandsIn firstDelay lastDelay lastNumbers stands allBands
+timed-canvas = refl

@@ -264,6 +264,8 @@ module _ (text : List ℕ) (q : Wanted) (t : ListedText) (c : Cue) (so : IsText 
         before-end = omega arith;
         form-is = form-to (q .stream) f g (h .at .position) ps (rw z w) a (x .form) (h .form-is);
         unit-is = h .unit-is;
+        show-stays = h .show-stays;
+        hide-stays = h .hide-stays;
       }
 
   -- each reading of either file is one of the other

@@ -3,6 +3,7 @@ pub mod Bands
 pub mod Look
 pub mod Control
 pub mod Record
+pub mod Times
 pub mod Rows
 pub mod Pixels
 pub mod Picture

@@ -1,4 +1,4 @@
--- A reading of index text and file for a cue and a stream, what makes it one, and what it gives (FORMAT 6.4 to 6.6).
+-- A reading of index text and file for a cue and a stream, what makes it one, and what it gives (FORMAT 6.4 to 6.7).
 -- It is found by nobody here: it passes or fails. Assumes nothing: these are definitions.
 use Prim.Native.Nat.{ℕ, _*_, _≤_, _<_}
 use mathlib.Core.Path.{_≡_}
@@ -11,7 +11,8 @@ use Rattle.grammar.specs.Index.{ListedText, IsText}
 use Rattle.grammar.specs.IndexCues.{Cue, cuesOf, cueAt, paletteOf, durationOf}
 use Rattle.grammar.specs.Packets.{Form, IsForm, unitOf, scratchFor, streamId, top-stream}
 use Rattle.grammar.specs.Bands.{bandWords}
-use Rattle.grammar.specs.Record.{Told, told, delayOf, width, height}
+use Rattle.grammar.specs.Record.{Told, told, given, delayOf, width, height}
+use Rattle.grammar.specs.Times.{showTime, hideTime, TimeStays}
 use Rattle.grammar.specs.Picture.{ListedUnit, IsUnit}
 use Rattle.grammar.specs.Pixels.{rowPixels, indexMap, codesIn, clippedIn}
 use Rattle.grammar.specs.Canvas.{toldLook, canvasBytes}
@@ -36,6 +37,24 @@ pub record Reading : Type 0 where
   pub form : Form
   pub unit : ListedUnit
 
+-- what its commands told
+abbrev pub toldBy : Reading → Told
+toldBy r = told (r .unit .blocks)
+
+-- its cue's start, and the times at which the picture is shown and hidden
+abbrev pub startAt : Option Cue → ℤ
+startAt none = pos 0
+startAt (some c) = c .start
+
+abbrev pub readingStart : Reading → ℤ
+readingStart r = startAt (cueAt (cuesOf (r .text)) (r .cue))
+
+abbrev pub showOf : Reading → Option ℤ
+showOf r = showTime (readingStart r) (toldBy r .starts)
+
+abbrev pub hideOf : Reading → Option ℤ
+hideOf r = hideTime (readingStart r) (toldBy r .starts) (toldBy r .stops)
+
 -- r is a reading of these files for the cue and the stream that are asked for
 pub record IsReading (text file : List ℕ) (q : Wanted) (r : Reading) : Type 0 where
   pub text-is : IsText text (r .text)
@@ -46,19 +65,21 @@ pub record IsReading (text file : List ℕ) (q : Wanted) (r : Reading) : Type 0 
   pub before-end : at .position < length file
   pub form-is : IsForm (wantedId q) file (at .position) (r .form)
   pub unit-is : IsUnit (unitOf (r .form)) (r .unit)
+  pub show-stays : TimeStays (showOf r)
+  pub hide-stays : TimeStays (hideOf r)
 
 -- ---- What a reading gives
 
--- what its commands told
-abbrev pub toldBy : Reading → Told
-toldBy r = told (r .unit .blocks)
-
--- times, origin, size, number of codes and number of clipped ones
+-- times, whether a start and a stop command stand, origin, size, number of codes and number of clipped ones
 pub record Shown : Type 0 where
   pub start : ℤ
   pub duration : Option ℕ
   pub start-delay : ℕ
   pub stop-delay : ℕ
+  pub started : Bool
+  pub stopped : Bool
+  pub show : Option ℤ
+  pub hide : Option ℤ
   pub x1 : ℕ
   pub y1 : ℕ
   pub width : ℕ
@@ -66,17 +87,17 @@ pub record Shown : Type 0 where
   pub codes : ℕ
   pub clipped : ℕ
 
-abbrev pub startAt : Option Cue → ℤ
-startAt none = pos 0
-startAt (some c) = c .start
-
 unfoldable pub shown : Reading → Shown
 shown r =
     record {
-      start = startAt (cueAt (cuesOf (r .text)) (r .cue));
+      start = readingStart r;
       duration = durationOf (cuesOf (r .text)) (r .cue);
       start-delay = delayOf (toldBy r .starts);
       stop-delay = delayOf (toldBy r .stops);
+      started = given (toldBy r .starts);
+      stopped = given (toldBy r .stops);
+      show = showOf r;
+      hide = hideOf r;
       x1 = toldBy r .at .x1;
       y1 = toldBy r .at .y1;
       width = width (toldBy r);

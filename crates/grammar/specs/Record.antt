@@ -1,6 +1,6 @@
 -- What listed blocks give: the record of a unit and its bands (FORMAT 3.6, 3.7). Assumes nothing: these are definitions.
 use Prim.Native.Nat.{ℕ, _+_, _-_}
-use mathlib.Core.Bool.{Bool, false, cond, _||_}
+use mathlib.Core.Bool.{Bool, true, false, cond, _||_}
 use mathlib.Core.Option.{Option, some, none}
 use mathlib.Core.List.{List, [], _∷_, _++_}
 use lib.Dec.{eqb, leb}
@@ -154,6 +154,11 @@ toldIn cs =
 
 unfoldable pub told : List Block → Told
 told bs = toldIn (commandsOf bs)
+
+-- whether a value was told
+abbrev pub given : {A : Type 0} → Option A → Bool
+given none = false
+given (some a) = true
 
 -- a delay, 0 where none was told
 abbrev pub delayOf : Option ℕ → ℕ

@@ -1,4 +1,5 @@
 // The index text as a whole (docs/FORMAT.md, section 1): size, palette and cue table, or one cue of it.
+use clock_model::Micros;
 use idx_lines::read_line;
 use idx_lines_model::Line;
 use idx_model::CueAnswer;
@@ -14,7 +15,7 @@ ghost use mathlib.Core.Path.{_≡_};
 ghost use mathlib.Core.Option.{some};
 ghost use mathlib.Core.List.{[]};
 ghost use Prim.Native.Nat.{ℕ, _<_, _+_, _^_, min};
-ghost use lib.IntN.{_-ℤ_};
+ghost use lib.IntN.{pos, _-ℤ_};
 ghost use lib.ListN.{length};
 ghost use Rattle.idx_model.specs.Claim.{IdxSays, CueSays};
 ghost use Rattle.outcome.specs.Outcome.{ok, refuse, IsOk};
@@ -346,10 +347,10 @@ fn refused_cue(number: u8) -> CueAnswer
 {
     CueAnswer {
         refused: number,
-        start: 0,
+        start: Micros(0),
         position: 0,
         has_duration: false,
-        duration: 0,
+        duration: Micros(0),
         has_palette: false,
         palette: [0u8; 48],
     }
@@ -357,19 +358,21 @@ fn refused_cue(number: u8) -> CueAnswer
 
 // The time up to the next start: 0 at least, and the largest signed number at most.
 // Ruled out: a difference below 0 wrapped; one above the largest signed number wrapped.
-pub fn duration_of(start: i64, next: i64) -> u64
-    ensures { λ r. ⌜ r ≡ clip (next -ℤ start) ⌝ }
+pub fn duration_of(start: Micros, next: Micros) -> Micros
+    ensures { λ r. ⌜ r .0 ≡ pos (clip (next .0 -ℤ start .0)) ⌝ }
 {
-    if start < next {
-        if start < 0 {
-            if 9223372036854775807 + start < next {
-                return 9223372036854775807;
+    let from = start.0;
+    let to = next.0;
+    if from < to {
+        if from < 0 {
+            if 9223372036854775807 + from < to {
+                return Micros(9223372036854775807);
             }
-            return (next - start) as u64;
+            return Micros(to - from);
         }
-        return (next - start) as u64;
+        return Micros(to - from);
     }
-    0
+    Micros(0)
 }
 
 fn picked_cue(seen: Seen, cue: usize, palette: [u8; 48]) -> CueAnswer
@@ -382,16 +385,16 @@ fn picked_cue(seen: Seen, cue: usize, palette: [u8; 48]) -> CueAnswer
     if n - cue == 1 {
         return CueAnswer {
             refused: 0,
-            start: seen.start,
+            start: Micros(seen.start),
             position: seen.position,
             has_duration: false,
-            duration: 0,
+            duration: Micros(0),
             has_palette: seen.has_palette,
             palette,
         };
     }
-    let start = seen.start;
-    let next = seen.next;
+    let start = Micros(seen.start);
+    let next = Micros(seen.next);
     let duration = duration_of(start, next);
     CueAnswer {
         refused: 0,

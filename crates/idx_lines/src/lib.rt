@@ -1,4 +1,5 @@
 // The lines of the index text, one by one (docs/FORMAT.md, rules 1.2 to 1.8): what a trimmed line says, or its refusal.
+use clock_model::Num;
 use idx_lines_model::Counted;
 use idx_lines_model::Field;
 use idx_lines_model::Found;
@@ -17,7 +18,6 @@ use idx_numbers::time_of;
 use idx_numbers::trim;
 use idx_numbers::until;
 use idx_numbers_model::Kind;
-use idx_numbers_model::Num;
 use idx_numbers_model::Number;
 use idx_numbers_model::Run;
 use outcome::BAD_HEIGHT;

@@ -26,9 +26,10 @@ use Rattle.idx_numbers_model.proofs.Grammar.{never, signed-is}
 use Rattle.idx_lines_model.proofs.Grammar.{given, checked, steps-is}
 use Rattle.idx_lines_model.specs.declared.Field.{Field}
 use Rattle.idx_lines_model.specs.declared.Field.the-variants.{Bad as NoField, Is as IsField}
+use Rattle.clock_model.specs.Sums as S
 use Rattle.idx_numbers_model.specs.Times as T
-use Rattle.idx_numbers_model.specs.declared.Num.{Num}
-use Rattle.idx_numbers_model.specs.declared.Num.the-variants.{Over, Is}
+use Rattle.clock_model.specs.declared.Num.{Num}
+use Rattle.clock_model.specs.declared.Num.the-variants.{Over, Is}
 
 -- ---- fields in turn, of any list of parts
 fields-nil : (n : ℕ) → fields n [] ≡ some []
@@ -65,7 +66,7 @@ numSays Over = refuse long-time
 numSays (Is z) = ok z
 
 seven : (a b c d e f g : Bool) (z : ℤ)
-    → numSays (T.pick a (T.pick b (T.pick c (T.pick d (T.pick e (T.pick f (T.pick g (Is z) Over) Over) Over) Over) Over) Over) Over)
+    → numSays (S.pick a (S.pick b (S.pick c (S.pick d (S.pick e (S.pick f (S.pick g (Is z) Over) Over) Over) Over) Over) Over) Over)
     ≡ check (a && (b && (c && (d && (e && (f && g)))))) long-time (ok z)
 seven false b c d e f g z = refl
 seven true false c d e f g z = refl
@@ -76,12 +77,12 @@ seven true true true true true false g z = refl
 seven true true true true true true false z = refl
 seven true true true true true true true z = refl
 
-picks : (t : Bool) (z : ℤ) (k : ℤ → Num) → T.andThen (T.pick t (Is z) Over) k ≡ T.pick t (k z) Over
+picks : (t : Bool) (z : ℤ) (k : ℤ → Num) → T.andThen (S.pick t (Is z) Over) k ≡ S.pick t (k z) Over
 picks true z k = refl
 picks false z k = refl
 
 pub sum-is : (fs : List (Valued ℤ)) → numSays (T.microsOf (field 0 fs) (field 1 fs) (field 2 fs) (field 3 fs)) ≡ check (steps fs) long-time (ok (startOf fs))
-unfolding T.checked steps startOf
+unfolding S.checked steps startOf
 sum-is fs =
     simp picks
     (seven (stays (field 0 fs *ℤ pos 60)) (stays (minutes fs)) (stays (minutes fs *ℤ pos 60)) (stays (seconds fs)) (stays (seconds fs *ℤ pos 1000000))

@@ -1,4 +1,5 @@
 -- Closed inputs on which each edit of this crate's definitions gives another value. Assumes nothing.
+use Prim.Native.Nat.{ℕ}
 use mathlib.Core.Path.{_≡_, refl}
 use mathlib.Core.Bool.{true, false}
 use mathlib.Core.Option.{some, none}
@@ -11,8 +12,10 @@ use Rattle.grammar.specs.IndexCues.{cuesOfLines, cueAt, durationOf}
 use Rattle.idx_numbers_model.specs.Parts.{strip, trim, front, rest, shorn, split, all}
 use Rattle.idx_numbers_model.specs.Numbers.{unsigned, signed, bare}
 use Rattle.idx_lines_model.specs.Lines.{lineOf, partsAt, firstOf, lastOf, fields, steps}
+use Rattle.grammar.specs.Record.{given}
+use Rattle.clock_model.specs.Answers.{micros}
 use Rattle.idx_model.specs.Text.{roomAfter, linesIn, textIn, idxIn, idxOf}
-use Rattle.idx_model.specs.Answers.{idxAnswer, idxWith, Picked, pickOf, given, orZero, cueAnswer}
+use Rattle.idx_model.specs.Answers.{idxAnswer, idxWith, Picked, pickOf, orZero, cueAnswer}
 
 -- no place is left after as many cues as there are places
 pub no-place : roomAfter (some 0) 0 ≡ false
@@ -29,7 +32,8 @@ unfolding pickOf idxIn textIn linesIn lineOf strip trim front rest shorn split p
 last-duration = refl
 
 -- a duration that is not given is 0
-pub duration-given : (given none ≡ false) × (given (some 7) ≡ true) × (orZero none ≡ 0) × (orZero (some 7) ≡ 7)
+pub duration-given :
+    (given {A = ℕ} none ≡ false) × (given {A = ℕ} (some 7) ≡ true) × (orZero none ≡ 0) × (orZero (some 7) ≡ 7)
 duration-given = (refl, refl, refl, refl)
 
 -- no bytes and a place in both buffers: one cue, in greys that no line gives
@@ -56,10 +60,10 @@ pub empty-picked :
     (cueAnswer (pickOf (idxOf []) 0)
     ≡ record {
       refused = 0;
-      start = pos 0;
+      start = micros (pos 0);
       position = 0;
       «has_duration» = false;
-      duration = 0;
+      duration = micros (pos 0);
       «has_palette» = false;
       palette = 0 ∷ 0 ∷ 0 ∷ 17 ∷ 17 ∷ 17 ∷ greysFrom 14 2;
     })

@@ -82,10 +82,10 @@ module _ (text : List ℕ) (n : ℕ) (r : CueAnswer) (h : r ≡ cueAnswer (pickO
       let q = h ∙ ap cueAnswer p in (
         ap (λ (a : CueAnswer). a .refused) q,
         record {
-          start = ap (λ (a : CueAnswer). a .start) q;
+          start = ap (λ (a : CueAnswer). a .start .0) q;
           position = ap (λ (a : CueAnswer). a .position) q;
           lasts = ap (λ (a : CueAnswer). a .«has_duration») q;
-          duration = ap (λ (a : CueAnswer). a .duration) q;
+          duration = ap (λ (a : CueAnswer). a .duration .0) q;
           coloured = ap (λ (a : CueAnswer). a .«has_palette») q;
           palette = ap (λ (a : CueAnswer). a .palette) q;
         },

@@ -4,11 +4,11 @@ use mathlib.Core.Path.{_≡_, refl, ap, ap₂, _∙_}
 use mathlib.Core.Bool.{Bool, true, false, cond}
 use native.Mathlib.Omega.{arith}
 use lib.Dec.{T, ltb, ltb→lt, leb→le}
-use lib.IntN.{ℤ, pos, negsuc, natAbs, subℕ, _+ℤ_, _-ℤ_}
+use lib.IntN.{ℤ, pos, negsuc, subℕ, _+ℤ_, _-ℤ_}
 use lib.Signed.{mag, nonNeg, ltZ, leZ, _<ℤ_, _≤ℤ_}
 use mir.Syntax.{w64}
-use mir.Val.{Fits, SFits, toZ, ofZ}
-use mir.Facts.{toZ-ofZ, fits-natAbs}
+use mir.Val.{SFits, toZ, ofZ}
+use mir.Facts.{toZ-ofZ}
 use borrow.Author.Tests.{ltb-true, ltb-false}
 use Rattle.grammar.specs.IndexCues.{clip}
 
@@ -74,8 +74,8 @@ later-above (pos (suc m)) (pos n) f l h =
     record { up = u .0; fits = record { sfits = omega (arith, u .1, f .sfits) } }
 
 -- and it is the duration
-whole-time : (z : ℤ) → Later z → natAbs z ≡ clip z
-whole-time (pos n) h = omega (arith, h .fits .sfits)
+whole-time : (z : ℤ) → Later z → z ≡ pos (clip z)
+whole-time (pos n) h = let e : n ≡ min n (2 ^ 63 - 1) = omega (arith, h .fits .sfits) in ap pos e
 whole-time (negsuc n) h = absurd (h .up)
 
 -- as the machine reads it back from its bits
@@ -89,8 +89,5 @@ module _ (a b x y : ℤ) (ea : x ≡ a) (eb : y ≡ b) (later : Later (b -ℤ a)
   back : toZ w64 (ofZ w64 (y -ℤ x)) ≡ b -ℤ a
   back = ap (λ (z : ℤ). toZ w64 (ofZ w64 z)) same ∙ toZ-ofZ {w = w64} (later .fits)
 
-  pub time-cast : (T (nonNeg (toZ w64 (ofZ w64 (y -ℤ x))))) × Fits w64 (natAbs (toZ w64 (ofZ w64 (y -ℤ x))))
-  time-cast = rw back (later .up, fits-natAbs {w = w64} {w′ = w64} tt (later .fits))
-
-  pub time-is : natAbs (toZ w64 (ofZ w64 (y -ℤ x))) ≡ clip (b -ℤ a)
-  time-is = ap natAbs back ∙ whole-time (b -ℤ a) later
+  pub time-is : toZ w64 (ofZ w64 (y -ℤ x)) ≡ pos (clip (b -ℤ a))
+  time-is = back ∙ whole-time (b -ℤ a) later

@@ -16,6 +16,7 @@ use Rattle.grammar.specs.Reading.{Wanted, Reading, IsReading}
 use Rattle.grammar.proofs.NoBytes.{low-blanks, blanks-say-nothing, no-cue-unread}
 use Rattle.idx_numbers_model.specs.Parts.{split}
 use Rattle.idx_numbers_model.proofs.Grammar.{split-is}
+use Rattle.clock_model.specs.Answers.{micros}
 use Rattle.idx_model.specs.Text.{idxIn, idxOf}
 use Rattle.idx_model.specs.Answers.{idxAnswer, idxWith, IdxRead, pickOf, cueAnswer}
 use Rattle.idx_model.specs.declared.IdxAnswer.{IdxAnswer}
@@ -50,10 +51,10 @@ pub picked-first : (r : CueAnswer) → r ≡ cueAnswer (pickOf (idxOf []) 0)
     → r
     ≡ record {
       refused = 0;
-      start = pos 0;
+      start = micros (pos 0);
       position = 0;
       «has_duration» = false;
-      duration = 0;
+      duration = micros (pos 0);
       «has_palette» = false;
       palette = greys;
     }

@@ -20,6 +20,7 @@ use Rattle.grammar.specs.IndexCues as cues
 use Rattle.idx_numbers_model.specs.Parts.{part, push, all, trim, split}
 use Rattle.idx_numbers_model.proofs.Grammar.{never}
 use Rattle.idx_lines_model.specs.Lines.{lineOf}
+use Rattle.clock_model.specs.Answers.{micros}
 use Rattle.idx_model.specs.Text.{orNone, cuesIn, roomFor, linesIn, textIn, idxIn, idxOf}
 use Rattle.idx_model.specs.Answers.{nothing-seen, seeAll, seenOf, idxAnswer, pickOf, cueAnswer}
 use Rattle.idx_model.specs.declared.Seen.{Seen}
@@ -217,10 +218,10 @@ module _ (cue : ℕ) (t : ListedText) (seen : Seen) (all : seen ≡ seenOf cue t
   pub pick-last : cue < seen .cues → seen .cues - cue ≡ 1 → (y : ℤ) → y ≡ seen .start
       → record {
         refused = 0;
-        start = y;
+        start = micros y;
         position = seen .position;
         «has_duration» = false;
-        duration = 0;
+        duration = micros (pos 0);
         «has_palette» = seen .«has_palette»;
         palette = p;
       }
@@ -231,22 +232,22 @@ module _ (cue : ℕ) (t : ListedText) (seen : Seen) (all : seen ≡ seenOf cue t
       rw (c .1, last-duration (cuesOf t) cue (omega (arith, cues-are)))
       (λ i. record {
         refused = 0;
-        start = (g ∙ start-is (c .0) (c .1)) i;
+        start = micros ((g ∙ start-is (c .0) (c .1)) i);
         position = position-is (c .0) (c .1) i;
         «has_duration» = false;
-        duration = 0;
+        duration = micros (pos 0);
         «has_palette» = coloured-is i;
         palette = hues i;
       })
 
   pub pick-next : cue < seen .cues → (seen .cues - cue ≡ 1 → ⊥) → (y : ℤ) → y ≡ seen .start
-      → (v : ℕ) → v ≡ clip (seen .next -ℤ seen .start)
+      → (v : ℤ) → v ≡ pos (clip (seen .next -ℤ seen .start))
       → record {
         refused = 0;
-        start = y;
+        start = micros y;
         position = seen .position;
         «has_duration» = true;
-        duration = v;
+        duration = micros v;
         «has_palette» = seen .«has_palette»;
         palette = p;
       }
@@ -256,17 +257,17 @@ module _ (cue : ℕ) (t : ListedText) (seen : Seen) (all : seen ≡ seenOf cue t
       let k : cue + 1 < length (cuesOf t) = omega (arith, cues-are) in
       let c = cue-in (cuesOf t) cue (omega (arith, cues-are)) in
       let d = cue-in (cuesOf t) (cue + 1) k in
-      let s : v ≡ clip (d .0 .start -ℤ c .0 .start) =
-      f ∙ ap (λ (x : ℤ). clip (x -ℤ seen .start)) (next-is (d .0) (d .1))
-      ∙ ap (λ (x : ℤ). clip (d .0 .start -ℤ x)) (start-is (c .0) (c .1)) in
+      let s : v ≡ pos (clip (d .0 .start -ℤ c .0 .start)) =
+      f ∙ ap (λ (x : ℤ). pos (clip (x -ℤ seen .start))) (next-is (d .0) (d .1))
+      ∙ ap (λ (x : ℤ). pos (clip (d .0 .start -ℤ x))) (start-is (c .0) (c .1)) in
       let e = ap (cueAt (cuesOf t)) (sym (add-one cue)) ∙ d .1 in
       rw (c .1, next-duration (cuesOf t) cue (c .0) (d .0) (c .1) e)
       (λ i. record {
         refused = 0;
-        start = (g ∙ start-is (c .0) (c .1)) i;
+        start = micros ((g ∙ start-is (c .0) (c .1)) i);
         position = position-is (c .0) (c .1) i;
         «has_duration» = true;
-        duration = s i;
+        duration = micros (s i);
         «has_palette» = coloured-is i;
         palette = hues i;
       })

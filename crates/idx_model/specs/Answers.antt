@@ -2,7 +2,7 @@
 -- Assumes nothing: these are definitions.
 use Prim.Native.Nat.{ℕ, _+_, _<_, min}
 use mathlib.Core.Path.{_≡_}
-use mathlib.Core.Bool.{Bool, true, false, cond, _||_}
+use mathlib.Core.Bool.{Bool, false, cond, _||_}
 use mathlib.Core.Option.{Option, some, none}
 use mathlib.Core.List.{List, [], _∷_, map}
 use lib.Dec.{eqb, ltb}
@@ -12,6 +12,8 @@ use lib.IntN.{ℤ, pos}
 use Rattle.outcome.specs.Outcome.{Res, ok, refuse, need, andThen, listed, listedBy, no-cue, short-cues}
 use Rattle.grammar.specs.Index.{Said, ListedText, of-lines, no-bytes}
 use Rattle.grammar.specs.IndexCues.{Cue, cuesOfLines, cuesOf, cueAt, paletteFrom, paletteOf, hasPalette, displaySize, durationOf}
+use Rattle.grammar.specs.Record.{given}
+use Rattle.clock_model.specs.Answers.{micros}
 use Rattle.idx_lines_model.specs.Answers.{Value, sized, coloured, cued, valueOf}
 use Rattle.idx_lines_model.specs.declared.Line.{Line}
 use Rattle.idx_lines_model.specs.declared.Line.the-variants as line
@@ -194,24 +196,28 @@ pickOf text n =
     (λ t. andThen (need no-cue (cueAt (cuesOf t) n))
     (λ c. ok (record { cue = c; duration = durationOf (cuesOf t) n; palette = paletteOf t; coloured = hasPalette t })))
 
-abbrev pub given : Option ℕ → Bool
-given none = false
-given (some d) = true
-
 abbrev pub orZero : Option ℕ → ℕ
 orZero none = 0
 orZero (some d) = d
 
 unfoldable pub cueAnswer : Res Picked → CueAnswer
 cueAnswer (refuse n) =
-    record { refused = n; start = pos 0; position = 0; «has_duration» = false; duration = 0; «has_palette» = false; palette = no-colours }
+    record {
+      refused = n;
+      start = micros (pos 0);
+      position = 0;
+      «has_duration» = false;
+      duration = micros (pos 0);
+      «has_palette» = false;
+      palette = no-colours;
+    }
 cueAnswer (ok p) =
     record {
       refused = 0;
-      start = p .cue .start;
+      start = micros (p .cue .start);
       position = p .cue .position;
       «has_duration» = given (p .duration);
-      duration = orZero (p .duration);
+      duration = micros (pos (orZero (p .duration)));
       «has_palette» = p .coloured;
       palette = p .palette;
     }

@@ -6,10 +6,11 @@ use mathlib.Core.Option.{some}
 use mathlib.Core.List.{List, map}
 use lib.ListN.{length}
 use lib.Seq.{sets}
-use lib.IntN.{ℤ}
+use lib.IntN.{ℤ, pos}
 use Rattle.grammar.specs.Index.{ListedText, IsText}
 use Rattle.grammar.specs.IndexCues.{Cue, cuesOf, cueAt, paletteOf, hasPalette, displaySize, durationOf}
-use Rattle.idx_model.specs.Answers.{given, orZero}
+use Rattle.grammar.specs.Record.{given}
+use Rattle.idx_model.specs.Answers.{orZero}
 use Rattle.idx_model.specs.declared.IdxAnswer.{IdxAnswer}
 use Rattle.idx_model.specs.declared.CueAnswer.{CueAnswer}
 
@@ -32,10 +33,10 @@ pub record IdxSays (text : List ℕ) (starts : List ℤ) (positions : List ℕ) 
 
 -- the answer is what the listed text gives for cue n, which is c
 pub record GivesCue (t : ListedText) (n : ℕ) (c : Cue) (r : CueAnswer) : Type 0 where
-  pub start : r .start ≡ c .start
+  pub start : r .start .0 ≡ c .start
   pub position : r .position ≡ c .position
   pub lasts : r .«has_duration» ≡ given (durationOf (cuesOf t) n)
-  pub duration : r .duration ≡ orZero (durationOf (cuesOf t) n)
+  pub duration : r .duration .0 ≡ pos (orZero (durationOf (cuesOf t) n))
   pub coloured : r .«has_palette» ≡ hasPalette t
   pub palette : r .palette ≡ paletteOf t
 

@@ -1,5 +1,7 @@
 // The index text without its functions: its answers, its definitions, their laws and the claim.
 
+use clock_model::Micros;
+
 // What was seen of a text, on the way to one of its cues.
 pub struct Seen {
     // How many cues there are.
@@ -35,12 +37,11 @@ pub struct IdxAnswer {
 pub struct CueAnswer {
     // The number of the refusal; 0 where there is none.
     pub refused: u8,
-    // Microseconds.
-    pub start: i64,
+    pub start: Micros,
     pub position: u64,
-    // Whether another cue follows, and the microseconds up to it; 0 where none does.
+    // Whether another cue follows, and the time up to it; 0 where none does.
     pub has_duration: bool,
-    pub duration: u64,
+    pub duration: Micros,
     pub has_palette: bool,
     // Red, green and blue of 16 entries.
     pub palette: [u8; 48],

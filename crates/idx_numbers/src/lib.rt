@@ -1,7 +1,8 @@
 // Parts of the index text and the numbers in them (docs/FORMAT.md, rules 1.1 to 1.3, 1.7 and 1.8). Functions take a part of the text and
 // hand back a part of it, a length or a number.
+use clock::plus;
+use clock_model::Num;
 use idx_numbers_model::Kind;
-use idx_numbers_model::Num;
 use idx_numbers_model::Number;
 use idx_numbers_model::Run;
 ghost use mathlib.Core.Path.{_≡_};
@@ -9,13 +10,14 @@ ghost use mathlib.Core.Bool.{not};
 ghost use mathlib.Core.List.{List};
 ghost use Prim.Native.Nat.{ℕ, _≤_, _<_, _+_, _*_};
 ghost use lib.ListN.{length, take, drop};
-ghost use lib.IntN.{pos, _+ℤ_, _*ℤ_};
+ghost use lib.IntN.{pos, _*ℤ_};
 ghost use Rattle.grammar.specs.IndexParts;
 ghost use Rattle.grammar.specs.IndexNumbers;
 ghost use Rattle.idx_numbers_model.specs.Parts;
 ghost use Rattle.idx_numbers_model.specs.Parts.{front, shorn, trimmed, all};
 ghost use Rattle.idx_numbers_model.specs.Numbers.{digits, unsigned, bare, hex, positionOf};
-ghost use Rattle.idx_numbers_model.specs.Times.{checked, microsOf};
+ghost use Rattle.clock_model.specs.Sums.{checked};
+ghost use Rattle.idx_numbers_model.specs.Times.{microsOf};
 ghost use Rattle.idx_numbers_model.specs.Answers.{test, valueIn, fitting, Bound, runOf, lowest};
 
 fn is_blank(b: u8) -> bool
@@ -418,27 +420,6 @@ fn times1000000(x: i64) -> Num
         return Num::Over;
     }
     Num::Is(x * 1000000)
-}
-
-fn plus(a: i64, b: i64) -> Num
-    ensures { λ r. ⌜ r ≡ checked (a +ℤ b) ⌝ }
-{
-    if a < 0 {
-        if b < 0 {
-            if a < -9223372036854775808 - b {
-                return Num::Over;
-            }
-            return Num::Is(a + b);
-        }
-        return Num::Is(a + b);
-    }
-    if b < 0 {
-        return Num::Is(a + b);
-    }
-    if a > 9223372036854775807 - b {
-        return Num::Over;
-    }
-    Num::Is(a + b)
 }
 
 // (((h·60)+m)·60+s)·1,000,000 + ms·1,000, refused where a step leaves signed 64 bits.

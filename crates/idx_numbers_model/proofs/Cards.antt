@@ -6,8 +6,9 @@ use lib.IntN.{pos}
 use Rattle.grammar.specs.IndexNumbers.{numeral}
 use Rattle.idx_numbers_model.specs.Parts.{all}
 use Rattle.idx_numbers_model.specs.Numbers.{unsigned, bare, positionOf}
-use Rattle.idx_numbers_model.specs.Times.{checked, microsOf}
-use Rattle.idx_numbers_model.specs.declared.Num.the-variants.{Is}
+use Rattle.clock_model.specs.Sums.{checked}
+use Rattle.clock_model.specs.declared.Num.the-variants.{Is}
+use Rattle.idx_numbers_model.specs.Times.{microsOf}
 
 -- 1:02:03.004
 pub hour-counted : microsOf (pos 1) (pos 2) (pos 3) (pos 4) ≡ Is (pos 3723004000)

@@ -3,5 +3,4 @@ pub mod Loops
 pub mod Numbers
 pub mod Steps
 pub mod Times
-pub mod Minus
 pub mod Cards

@@ -1,19 +1,8 @@
 -- The sum of a time, each step of which stays in signed 64 bits (FORMAT 1.7). Assumes nothing: these are definitions.
-use mathlib.Core.Bool.{Bool, true, false}
-use Prim.Native.Nat.{_^_}
-use lib.Dec.{ltb}
 use lib.IntN.{ℤ, pos, _+ℤ_, _*ℤ_}
-use lib.Signed.{mag}
-use Rattle.idx_numbers_model.specs.declared.Num.{Num}
-use Rattle.idx_numbers_model.specs.declared.Num.the-variants.{Over, Is}
-
-abbrev pub pick {ℓ} : {A : Type ℓ} → Bool → A → A → A
-pick true a b = a
-pick false a b = b
-
--- a number where it stays in signed 64 bits
-unfoldable pub checked : ℤ → Num
-checked z = pick (ltb (mag z) (2 ^ 63)) (Is z) Over
+use Rattle.clock_model.specs.Sums.{checked}
+use Rattle.clock_model.specs.declared.Num.{Num}
+use Rattle.clock_model.specs.declared.Num.the-variants.{Over, Is}
 
 abbrev pub andThen : Num → (ℤ → Num) → Num
 andThen Over k = Over

@@ -18,9 +18,3 @@ pub enum Number {
     Bad,
     Is(u64),
 }
-
-// A number of signed 64 bits, or one that is none.
-pub enum Num {
-    Over,
-    Is(i64),
-}

@@ -1,4 +1,6 @@
 // The lines of the list program, each put into a lent line (docs/FORMAT.md, section 8).
+use clock_model::Micros;
+use clock_model::TimesAnswer;
 use control_model::Spu;
 use listing_model::Head;
 use outcome::NO_CUE;
@@ -169,9 +171,11 @@ fn put_shown(
         line,
         a,
     );
+    let start_delay = s.start_delay_raw;
+    let stop_delay = s.stop_delay_raw;
     put_delays(
-        s.start_delay_raw as u64,
-        s.stop_delay_raw as u64,
+        start_delay.0 as u64,
+        stop_delay.0 as u64,
         s.codes as u64,
         line,
         b,
@@ -188,19 +192,29 @@ fn put_refused(n: usize, number: u8, line: &mut [u8; 256]) -> usize
     put_newline(line, c)
 }
 
-// The line of a cue with these times and this unit.
+// The line of a cue with this start and duration and this unit.
+// Ruled out: a cue listed whose show or hide time leaves.
 fn put_unit(
     unit: &[u8],
     n: usize,
-    start: i64,
+    start: Micros,
     lasts: bool,
     duration: u64,
     line: &mut [u8; 256],
 ) -> usize
-    ensures { λ r. ⌜ Put 210 (now (line .entry)) 0 (unitLine n start (durationIs lasts duration) (now (unit .entry))) r (now (line .exit)) ⌝ }
+    ensures { λ r. ⌜ Put 210 (now (line .entry)) 0 (unitLine n (start .0) (durationIs lasts duration) (now (unit .entry))) r (now (line .exit)) ⌝ }
 {
     match spu::measure_spu(unit) {
-        SpuAnswer::Shows(s) => put_shown(n, start, lasts, duration, s, line),
+        SpuAnswer::Shows(s) => match clock::times_of(
+            start,
+            s.started,
+            s.start_delay_raw,
+            s.stopped,
+            s.stop_delay_raw,
+        ) {
+            TimesAnswer::Are(_) => put_shown(n, start.0, lasts, duration, s, line),
+            TimesAnswer::Refused(number) => put_refused(n, number, line),
+        },
         SpuAnswer::Refused(number) => put_refused(n, number, line),
     }
 }
@@ -212,29 +226,30 @@ fn put_found<'a>(
     unit: UnitAnswer,
     position: u64,
     n: usize,
-    start: i64,
+    start: Micros,
     lasts: bool,
     duration: u64,
     line: &mut [u8; 256],
 ) -> usize
-    ensures { λ r. ⌜ Put 210 (now (line .entry)) 0 (unitLine n start (durationIs lasts duration) (unitPart (now (file .entry)) (now (scratch .entry)) position unit)) r (now (line .exit)) ⌝ }
+    ensures { λ r. ⌜ Put 210 (now (line .entry)) 0 (unitLine n (start .0) (durationIs lasts duration) (unitPart (now (file .entry)) (now (scratch .entry)) position unit)) r (now (line .exit)) ⌝ }
 {
     let bytes = ps::unit_part(file, scratch, position as usize, unit);
     put_unit(bytes, n, start, lasts, duration, line)
 }
 
-// The line of a cue with these times and this position. A unit has at most 65,535 bytes, so scratch holds every one.
+// The line of a cue with this start and duration and this position. A unit has at most 65,535 bytes, so scratch holds
+// every one.
 fn put_cue(
     file: &[u8],
     position: u64,
     n: usize,
-    start: i64,
+    start: Micros,
     lasts: bool,
     duration: u64,
     scratch: &mut [u8; 65536],
     line: &mut [u8; 256],
 ) -> usize
-    ensures { λ r. ⌜ (Put 210 (now (line .entry)) 0 (positionLine n start (durationIs lasts duration) (now (file .entry)) position) r (now (line .exit)))
+    ensures { λ r. ⌜ (Put 210 (now (line .entry)) 0 (positionLine n (start .0) (durationIs lasts duration) (now (file .entry)) position) r (now (line .exit)))
         × (now (scratch .exit) ≡ sets (now (scratch .entry)) 0 (unitStored (formAt (streamId list-stream) (now (file .entry)) position))) ⌝ }
 {
     match ps::extract_spu(file, position as usize, STREAM, scratch) {
@@ -286,10 +301,13 @@ pub fn cue_line(
     if size <= n {
         return put_refused(n, NO_CUE, line);
     }
-    let start = starts[n];
+    let from = starts[n];
+    let start = Micros(from);
     let next = n + 1;
     if next < size {
-        let duration = idx::duration_of(start, starts[next]);
+        let to = starts[next];
+        let lasting = idx::duration_of(start, Micros(to));
+        let duration = clock::count_of(lasting);
         return put_cue(file, positions[n], n, start, true, duration, scratch, line);
     }
     put_cue(file, positions[n], n, start, false, 0, scratch, line)

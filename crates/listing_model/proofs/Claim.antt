@@ -5,17 +5,21 @@ use native.Mathlib.Omega.{arith}
 use mathlib.Core.Path.{_≡_, refl, sym, ap, _∙_, subst}
 use mathlib.Core.Option.{some}
 use mathlib.Core.List.{List}
+use lib.IntN.{ℤ}
 use lib.ListN.{length}
 use lib.Seq.{sets}
-use Rattle.outcome.specs.Outcome.{Res, ok, refuse, IsOk, need, andThen, mapRes, no-cue}
-use Rattle.outcome.proofs.Laws.{andThen-ok, mapRes-ok, need-some}
+use Rattle.outcome.specs.Outcome.{Res, ok, refuse, IsOk, need, andThen, mapRes, no-cue, long-instant}
+use Rattle.outcome.proofs.Laws.{ok-injective, andThen-ok, check-ok, mapRes-ok, need-some}
 use Rattle.grammar.specs.Index.{ListedText, IsText}
 use Rattle.grammar.specs.IndexCues.{Cue, cuesOf, cueAt, durationOf}
 use Rattle.grammar.specs.Packets.{Form, unitOf, streamId}
 use Rattle.grammar.proofs.Streams.{readings-same}
-use Rattle.grammar.specs.Record.{told, delayOf, width, height}
+use Rattle.grammar.specs.Record.{told, given as given-told, delayOf, width, height}
+use Rattle.grammar.specs.Times.{showTime, hideTime, TimeStays}
 use Rattle.grammar.specs.Pixels.{codesIn, clippedIn}
-use Rattle.grammar.specs.Reading.{wanted, Reading, IsReading, Shown, startAt, shown}
+use Rattle.grammar.specs.Reading.{wanted, Reading, IsReading, Shown, startAt, readingStart, shown}
+use Rattle.clock_model.specs.Clock.{toldStay, unitInTime}
+use Rattle.clock_model.proofs.Clock.{stay-iff}
 use Rattle.idx_model.proofs.Grammar.{text-unique}
 use Rattle.ps_model.specs.Packets.{formAt}
 use Rattle.ps_model.specs.Answers.{unitStored}
@@ -24,7 +28,7 @@ use Rattle.ps_model.proofs.Streams.{form-same}
 use Rattle.spu_model.specs.Unit.{unitAt}
 use Rattle.spu_model.proofs.Grammar.{unit-iff}
 use Rattle.listing_model.specs.Lines.{refusedLine}
-use Rattle.listing_model.specs.Title.{list-stream, shownAt, unitFor, formFor, shownFor, lineOf, cueLine}
+use Rattle.listing_model.specs.Title.{list-stream, shownAt, unitFor, timedFor, formFor, shownFor, lineOf, cueLine}
 use Rattle.listing_model.specs.Answers.{Put, Written, Exactly, Undisturbed}
 use Rattle.listing_model.proofs.Laws.{written}
 
@@ -38,16 +42,29 @@ module _ (cs : List Cue) (f : List ℕ) (n : ℕ) where
     unfolding unitFor
     unit-is = rw (form-iff (streamId list-stream) f (h .at .position) (x .form) .1 (h .before-end, h .form-is)) (unit-iff (unitOf (x .form)) (x .unit) .1 (h .unit-is))
 
+    start-is : h .at .start ≡ readingStart x
+    start-is = ap startAt (sym (h .listed))
+
+    -- and its times stay
+    timed-is : timedFor (h .at .start) f (h .at .position) ≡ ok (x .unit)
+    unfolding timedFor
+    timed-is =
+        let t = told (x .unit .blocks) in
+        rw (unit-is, start-is, stay-iff (readingStart x) (t .starts) (t .stops) .1 (h .show-stays, h .hide-stays))
+
     shown-is : shownAt (h .at .start) (durationOf cs n) (x .unit) ≡ shown x
     unfolding shown
     shown-is =
         let t = told (x .unit .blocks) in
-        let z : h .at .start ≡ startAt (cueAt (cuesOf (x .text)) (x .cue)) = ap startAt (sym (h .listed)) in
         λ i. record {
-          start = z i;
+          start = start-is i;
           duration = durationOf (sym e i) (sym (h .cue-is) i);
           start-delay = delayOf (t .starts);
           stop-delay = delayOf (t .stops);
+          started = given-told (t .starts);
+          stopped = given-told (t .stops);
+          show = showTime (start-is i) (t .starts);
+          hide = hideTime (start-is i) (t .starts) (t .stops);
           x1 = t .at .x1;
           y1 = t .at .y1;
           width = width t;
@@ -58,28 +75,36 @@ module _ (cs : List Cue) (f : List ℕ) (n : ℕ) where
 
     pub reading-shown : shownFor cs f n ≡ ok (shown x)
     unfolding shownFor
-    reading-shown = rw (cue-is, unit-is) (ap ok shown-is)
+    reading-shown = rw (cue-is, timed-is) (ap ok shown-is)
 
   -- and what is shown is a reading's
   pub shown-reading : (text : List ℕ) (index : ListedText) → IsText text index → cuesOf index ≡ cs → (s : Shown)
       → shownFor cs f n ≡ ok s → (x : Reading) × IsReading text f (wanted n list-stream) x
-  unfolding shownFor unitFor
+  unfolding shownFor unitFor timedFor
   shown-reading text index t e s q =
       let a = andThen-ok (need no-cue (cueAt cs n)) _ q in
       let c = a .0 in
-      let b = mapRes-ok (shownAt (c .start) (durationOf cs n)) (unitFor f (c .position)) (a .2) in
-      let m = andThen-ok (formAt (streamId list-stream) f (c .position)) _ (b .1) in
-      let i = form-iff (streamId list-stream) f (c .position) (m .0) .0 (m .1) in (
-        record { text = index; cue = n; form = m .0; unit = b .0 },
+      let b = mapRes-ok (shownAt (c .start) (durationOf cs n)) (timedFor (c .start) f (c .position)) (a .2) in
+      let d = andThen-ok (unitFor f (c .position)) _ (b .1) in
+      let k = check-ok (toldStay (c .start) (told (d .0 .blocks))) long-instant (ok (d .0)) (d .2) in
+      let p : d .0 ≡ b .0 = ok-injective (k .1) in
+      let m = andThen-ok (formAt (streamId list-stream) f (c .position)) _ (d .1) in
+      let i = form-iff (streamId list-stream) f (c .position) (m .0) .0 (m .1) in
+      let l : cueAt (cuesOf index) n ≡ some c = ap (λ (l : List Cue). cueAt l n) e ∙ need-some no-cue (cueAt cs n) (a .1) in
+      let w = stay-iff (c .start) (told (d .0 .blocks) .starts) (told (d .0 .blocks) .stops) .0 (k .0) in
+      let v = subst (λ (z : ℤ). TimeStays (showTime z (told (d .0 .blocks) .starts)) × TimeStays (hideTime z (told (d .0 .blocks) .starts) (told (d .0 .blocks) .stops))) (ap startAt (sym l)) w in (
+        record { text = index; cue = n; form = m .0; unit = d .0 },
         record {
           text-is = t;
           cue-is = refl;
           stream-is = omega arith;
           at = c;
-          listed = ap (λ (l : List Cue). cueAt l n) e ∙ need-some no-cue (cueAt cs n) (a .1);
+          listed = l;
           before-end = i .0;
           form-is = i .1;
-          unit-is = unit-iff (unitOf (m .0)) (b .0) .0 (m .2);
+          unit-is = unit-iff (unitOf (m .0)) (d .0) .0 (m .2);
+          show-stays = v .0;
+          hide-stays = v .1;
         },
       )
 
@@ -109,10 +134,10 @@ module _ (cs : List Cue) (f : List ℕ) (n : ℕ) where
   -- what other streams carry does not count
   pub undisturbed : (l s : List ℕ) (r : ℕ) (l′ s′ : List ℕ) → Written (cueLine cs f n) l r l′
       → s′ ≡ sets s 0 (unitStored (formFor cs f n)) → Undisturbed cs f n l s r l′ s′
-  unfolding shownFor unitFor formFor
+  unfolding shownFor unitFor timedFor formFor
   undisturbed l s r l′ s′ w q g c ps e k a t l″ s″ v u =
       let z = form-same list-stream f g (c .position) ps k a in
-      let x : shownFor cs f n ≡ shownFor cs g n = rw e (ap (λ (m : Res Form). mapRes (shownAt (c .start) (durationOf cs n)) (andThen m (λ o. unitAt (unitOf o)))) z) in
+      let x : shownFor cs f n ≡ shownFor cs g n = rw e (ap (λ (m : Res Form). mapRes (shownAt (c .start) (durationOf cs n)) (unitInTime (c .start) (andThen m (λ o. unitAt (unitOf o))))) z) in
       let y : formFor cs f n ≡ formFor cs g n = rw e z in
       record {
         readings = λ text index i o. readings-same text (wanted n list-stream) index c i (ap (λ (v : List Cue). cueAt v n) o ∙ e) f g ps k a;

@@ -12,7 +12,7 @@ use mir.Syntax.{w64}
 use mir.Val.{SFits, toZ, ofZ}
 use mir.Facts.{toZ-ofZ}
 use borrow.Author.Tests.{ltb-true}
-use Rattle.idx_numbers_model.proofs.Minus.{minus-fits, minus-below}
+use Rattle.clock_model.proofs.Minus.{minus-fits, minus-below}
 use Rattle.listing_model.specs.Lines.{decimal, signed}
 use Rattle.listing_model.specs.Answers.{Put}
 use Rattle.listing_model.proofs.Laws.{decimal-short, put-cons, put-in, put-as}

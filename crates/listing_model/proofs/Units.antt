@@ -18,7 +18,13 @@ use Rattle.grammar.specs.Bytes.{byte, word}
 use Rattle.grammar.specs.Packets.{Packet, Part, keptBytes, joined, Packets, IsPack, IsPrivate, IsOther, IsPacket, Keeps, Form, bare, packets, IsForm, unitOf, scratchFor, streamId}
 use Rattle.grammar.specs.Record.{told, width}
 use Rattle.grammar.specs.Picture.{ListedUnit}
+use Rattle.clock_model.specs.Clock.{unitInTime}
+use Rattle.clock_model.specs.Answers.{delayed, timesAnswer}
+use Rattle.clock_model.specs.declared.Times.{Times}
+use Rattle.clock_model.specs.declared.TimesAnswer.{TimesAnswer}
+use Rattle.clock_model.specs.declared.TimesAnswer.the-variants as times-answer
 use Rattle.control_model.specs.Chain.{controlAt}
+use Rattle.control_model.proofs.Clock.{told-stay, told-leave}
 use Rattle.control_model.specs.Answers.{spuOf}
 use Rattle.control_model.specs.declared.Spu.{Spu}
 use Rattle.ps_model.specs.Packets.{formAt}
@@ -34,7 +40,7 @@ use Rattle.spu_model.specs.declared.SpuAnswer.{SpuAnswer}
 use Rattle.spu_model.specs.declared.SpuAnswer.the-variants as spu-answer
 use Rattle.spu_model.proofs.Loops.{known}
 use Rattle.listing_model.specs.Lines.{shownLine, refusedLine}
-use Rattle.listing_model.specs.Title.{list-stream, shownAt, unitFor, lineOf}
+use Rattle.listing_model.specs.Title.{list-stream, shownAt, unitFor, timedFor, lineOf}
 use Rattle.listing_model.specs.Answers.{Put, recordShown, unitLine, positionLine}
 use Rattle.listing_model.proofs.Laws.{put-as}
 use Rattle.rle_model.specs.Answers.{nothing, listedCounts}
@@ -143,34 +149,47 @@ shows-sides u r s d q = go (unitAt u) refl (sym q ∙ d)
         let t : s ≡ spuOf (told bs) (listedCounts (width (told bs)) (m .0)) = let z : s ≡ spuOf (told (l .blocks)) (countsOf l) = cc in z ∙ ap (λ (v : ListedUnit). spuOf (told (v .blocks)) (countsOf v)) (sym (m .2)) in
         (subst (λ (v : Spu). v .x1 ≤ v .x2) (sym t) (y .wide), subst (λ (v : Spu). v .y1 ≤ v .y2) (sym t) (y .high))
 
-module _ (n : ℕ) (z : ℤ) (o : Option ℕ) where
-  module _ (y : ℤ) (e : y ≡ z) where
-    pub shows-line : {l l′ : List ℕ} {k : ℕ} (u : List ℕ) (r : SpuAnswer) (s : Spu) (v : ℕ) → r ≡ spuAnswer (unitAt u)
-        → r ≡ spu-answer.Shows s
+module _ (n : ℕ) (z : ℤ) (o : Option ℕ) {l l′ : List ℕ} {k : ℕ} where
+  -- a unit that is not refused, by its times
+  module _ (u : List ℕ) (r : SpuAnswer) (s : Spu) (d : r ≡ spuAnswer (unitAt u)) (q : r ≡ spu-answer.Shows s)
+      (t : TimesAnswer)
+      (g : t ≡ timesAnswer z (delayed (s .started) (s .«start_delay_raw» .0)) (delayed (s .stopped) (s .«stop_delay_raw» .0))) where
+    pub shows-line : (y : ℤ) → y ≡ z → (v : ℕ) (x : Times) → t ≡ times-answer.Are x
         → Put k l 0 (shownLine n (recordShown y o s)) v l′ → Put k l 0 (unitLine n z o u) v l′
-    unfolding spuOf
-    shows-line u r s v d q p = put-as (go (unitAt u) (sym q ∙ d)) p
+    unfolding spuOf shownLine
+    shows-line y e v x h p = put-as (go (unitAt u) (sym q ∙ d)) p
       where
-        go : (x : Res ListedUnit) → spu-answer.Shows s ≡ spuAnswer x
-            → shownLine n (recordShown y o s) ≡ lineOf n (mapRes (shownAt z o) x)
+        go : (m : Res ListedUnit) → spu-answer.Shows s ≡ spuAnswer m
+            → shownLine n (recordShown y o s) ≡ lineOf n (mapRes (shownAt z o) (unitInTime z m))
         go (refuse m) f = let w : _≡_ {A = ℕ} 0 1 = cc in absurd (omega arith)
         go (ok m) f =
             let w : s ≡ spuOf (told (m .blocks)) (countsOf m) = cc in
-            ap (λ (i : Spu). shownLine n (recordShown y o i)) w ∙ ap (λ (i : ℤ). shownLine n (recordShown i o (spuOf (told (m .blocks)) (countsOf m)))) e
+            rw (told-stay z s (told (m .blocks)) (countsOf m) w t g x h .0)
+            (ap (λ (i : Spu). shownLine n (recordShown y o i)) w ∙ ap (λ (i : ℤ). shownLine n (recordShown i o (spuOf (told (m .blocks)) (countsOf m)))) e)
 
-    pub part-line : {l l′ : List ℕ} {k : ℕ} (u w : List ℕ) (v : ℕ) → u ≡ w → Put k l 0 (unitLine n y o u) v l′
-        → Put k l 0 (unitLine n z o w) v l′
-    part-line u w v q p = put-as (ap (unitLine n y o) q ∙ ap (λ (i : ℤ). unitLine n i o w) e) p
+    pub late-line : (j v : ℕ) → t ≡ times-answer.Refused j → Put k l 0 (refusedLine n j) v l′ → Put k l 0 (unitLine n z o u) v l′
+    late-line j v h p = put-as (go (unitAt u) (sym q ∙ d)) p
+      where
+        go : (m : Res ListedUnit) → spu-answer.Shows s ≡ spuAnswer m
+            → refusedLine n j ≡ lineOf n (mapRes (shownAt z o) (unitInTime z m))
+        go (refuse m) f = let w : _≡_ {A = ℕ} 0 1 = cc in absurd (omega arith)
+        go (ok m) f =
+            let w : s ≡ spuOf (told (m .blocks)) (countsOf m) = cc in
+            let i = told-leave z s (told (m .blocks)) (countsOf m) w t g j h in
+            rw (i .0) (ap (refusedLine n) (i .1))
 
-  pub refuses-line : {l l′ : List ℕ} {k : ℕ} (u : List ℕ) (r : SpuAnswer) (m v : ℕ) → r ≡ spuAnswer (unitAt u)
-      → r ≡ spu-answer.Refused m
+  pub refuses-line : (u : List ℕ) (r : SpuAnswer) (m v : ℕ) → r ≡ spuAnswer (unitAt u) → r ≡ spu-answer.Refused m
       → Put k l 0 (refusedLine n m) v l′ → Put k l 0 (unitLine n z o u) v l′
   refuses-line u r m v d q p = put-as (go (unitAt u) (sym q ∙ d)) p
     where
       go : (x : Res ListedUnit) → spu-answer.Refused m ≡ spuAnswer x
-          → refusedLine n m ≡ lineOf n (mapRes (shownAt z o) x)
+          → refusedLine n m ≡ lineOf n (mapRes (shownAt z o) (unitInTime z x))
       go (ok l) f = let w : _≡_ {A = ℕ} 0 1 = cc in absurd (omega arith)
       go (refuse j) f = let w : m ≡ j = cc in ap (refusedLine n) w
+
+  -- of the unit's bytes
+  pub part-line : (u w : List ℕ) (v : ℕ) → u ≡ w → Put k l 0 (unitLine n z o u) v l′ → Put k l 0 (unitLine n z o w) v l′
+  part-line u w v q p = put-as (ap (unitLine n z o) q) p
 
 -- ---- The line of a position
 
@@ -213,13 +232,16 @@ pub scratch-kept : (f : List ℕ) (bytes : (i : ℕ) → Fits w8 (byte f i)) (p 
     → s′ ≡ sets s 0 (unitStored (formAt (streamId list-stream) f p))
 scratch-kept f bytes p s s′ r long d = d .scratch ∙ ap (λ (x : Res Form). sets s 0 (unitStored x)) (open-form f bytes p s s′ long r d)
 
-pub found-line : (n : ℕ) (z : ℤ) (o : Option ℕ) (y : ℤ) (e : y ≡ z) {l l′ : List ℕ} {k : ℕ} (v : ℕ) (f : List ℕ) (bytes : (i : ℕ) → Fits w8 (byte f i)) (p : ℕ) (s s′ : List ℕ) (r : UnitAnswer)
+pub found-line : (n : ℕ) (z : ℤ) (o : Option ℕ) {l l′ : List ℕ} {k : ℕ} (v : ℕ) (f : List ℕ) (bytes : (i : ℕ) → Fits w8 (byte f i)) (p : ℕ) (s s′ : List ℕ) (r : UnitAnswer)
     → length s ≡ 65536
-    → Extracted f p list-stream s r s′ → ((j : ℕ) → r ≡ unit-answer.Refused j → ⊥) → Put k l 0 (unitLine n y o (unitPart f s′ p r)) v l′ → Put k l 0 (positionLine n z o f p) v l′
-found-line n z o y e v f bytes p s s′ r long d h q =
-    put-as (ap (λ (x : Res ListedUnit). lineOf n (mapRes (shownAt y o) x)) (unit-found f bytes p s s′ long r d h) ∙ ap (λ (i : ℤ). positionLine n i o f p) e) q
+    → Extracted f p list-stream s r s′ → ((j : ℕ) → r ≡ unit-answer.Refused j → ⊥) → Put k l 0 (unitLine n z o (unitPart f s′ p r)) v l′ → Put k l 0 (positionLine n z o f p) v l′
+unfolding timedFor
+found-line n z o v f bytes p s s′ r long d h q =
+    put-as (ap (λ (x : Res ListedUnit). lineOf n (mapRes (shownAt z o) (unitInTime z x))) (unit-found f bytes p s s′ long r d h)) q
 
 pub none-line : (n : ℕ) (z : ℤ) (o : Option ℕ) {l l′ : List ℕ} {k : ℕ} (v : ℕ) (f : List ℕ) (bytes : (i : ℕ) → Fits w8 (byte f i)) (p : ℕ) (s s′ : List ℕ) (r : UnitAnswer) (m : ℕ)
     → length s ≡ 65536
     → Extracted f p list-stream s r s′ → r ≡ unit-answer.Refused m → Put k l 0 (refusedLine n m) v l′ → Put k l 0 (positionLine n z o f p) v l′
-none-line n z o v f bytes p s s′ r m long d h q = put-as (ap (λ (x : Res ListedUnit). lineOf n (mapRes (shownAt z o) x)) (unit-none f bytes p s s′ long r d m h)) q
+unfolding timedFor
+none-line n z o v f bytes p s s′ r m long d h q =
+    put-as (ap (λ (x : Res ListedUnit). lineOf n (mapRes (shownAt z o) (unitInTime z x))) (unit-none f bytes p s s′ long r d m h)) q

@@ -14,11 +14,14 @@ use Rattle.grammar.specs.IndexCues.{Cue, cuesOf, cueAt}
 use Rattle.grammar.specs.Packets.{Packet, streamId}
 use Rattle.grammar.specs.Streams.{Walk, Alike}
 use Rattle.grammar.specs.Reading.{wanted, Reading, IsReading, Shown, shown}
+use Rattle.grammar.specs.Times.{showTime, hideTime}
+use Rattle.clock_model.specs.Clock.{unitInTime}
+use Rattle.clock_model.specs.Answers.{delayed}
 use Rattle.control_model.specs.declared.Spu.{Spu}
 use Rattle.ps_model.specs.Answers.{unitStored}
 use Rattle.spu_model.specs.Unit.{unitAt}
 use Rattle.listing_model.specs.Lines.{refusedLine, shownLine}
-use Rattle.listing_model.specs.Title.{list-stream, shownAt, unitFor, formFor, shownFor, lineOf, cueLine, headLine, listedCues}
+use Rattle.listing_model.specs.Title.{list-stream, shownAt, timedFor, formFor, shownFor, lineOf, cueLine, headLine, listedCues}
 use Rattle.listing_model.specs.declared.Head.{Head}
 
 -- ---- In a line
@@ -46,8 +49,14 @@ recordShown start duration s =
     record {
       start = start;
       duration = duration;
-      start-delay = s .«start_delay_raw»;
-      stop-delay = s .«stop_delay_raw»;
+      start-delay = s .«start_delay_raw» .0;
+      stop-delay = s .«stop_delay_raw» .0;
+      started = s .started;
+      stopped = s .stopped;
+      show = showTime start (delayed (s .started) (s .«start_delay_raw» .0));
+      hide =
+          hideTime start (delayed (s .started) (s .«start_delay_raw» .0))
+          (delayed (s .stopped) (s .«stop_delay_raw» .0));
       x1 = s .x1;
       y1 = s .y1;
       width = s .x2 + 1 - s .x1;
@@ -58,11 +67,11 @@ recordShown start duration s =
 
 -- the line of cue n with these times and the unit u
 abbrev pub unitLine : ℕ → ℤ → Option ℕ → List ℕ → List ℕ
-unitLine n start duration u = lineOf n (mapRes (shownAt start duration) (unitAt u))
+unitLine n start duration u = lineOf n (mapRes (shownAt start duration) (unitInTime start (unitAt u)))
 
 -- and with this position in the file f
 abbrev pub positionLine : ℕ → ℤ → Option ℕ → List ℕ → ℕ → List ℕ
-positionLine n start duration f p = lineOf n (mapRes (shownAt start duration) (unitFor f p))
+positionLine n start duration f p = lineOf n (mapRes (shownAt start duration) (timedFor start f p))
 
 -- ---- The cue table
 

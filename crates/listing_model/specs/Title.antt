@@ -10,10 +10,12 @@ use lib.ListN.{length}
 use Rattle.outcome.specs.Outcome.{Res, ok, refuse, need, andThen, mapRes, listed, no-cue}
 use Rattle.grammar.specs.IndexCues.{Cue, cuesOf, cueAt, durationOf}
 use Rattle.grammar.specs.Packets.{Form, unitOf, streamId}
-use Rattle.grammar.specs.Record.{told, delayOf, width, height}
+use Rattle.grammar.specs.Record.{told, given, delayOf, width, height}
+use Rattle.grammar.specs.Times.{showTime, hideTime}
 use Rattle.grammar.specs.Picture.{ListedUnit}
 use Rattle.grammar.specs.Pixels.{codesIn, clippedIn}
 use Rattle.grammar.specs.Reading.{Shown}
+use Rattle.clock_model.specs.Clock.{unitInTime}
 use Rattle.idx_model.specs.Text.{idxOf}
 use Rattle.ps_model.specs.Packets.{formAt}
 use Rattle.spu_model.specs.Unit.{unitAt}
@@ -33,6 +35,10 @@ shownAt start duration l =
       duration = duration;
       start-delay = delayOf (told (l .blocks) .starts);
       stop-delay = delayOf (told (l .blocks) .stops);
+      started = given (told (l .blocks) .starts);
+      stopped = given (told (l .blocks) .stops);
+      show = showTime start (told (l .blocks) .starts);
+      hide = hideTime start (told (l .blocks) .starts) (told (l .blocks) .stops);
       x1 = told (l .blocks) .at .x1;
       y1 = told (l .blocks) .at .y1;
       width = width (told (l .blocks));
@@ -45,6 +51,10 @@ shownAt start duration l =
 unfoldable pub unitFor : List ℕ → ℕ → Res ListedUnit
 unitFor f p = andThen (formAt (streamId list-stream) f p) (λ m. unitAt (unitOf m))
 
+-- and then 33, for a cue with this start
+unfoldable pub timedFor : ℤ → List ℕ → ℕ → Res ListedUnit
+timedFor start f p = unitInTime start (unitFor f p)
+
 -- how the unit of cue n of the cues cs stands in the file: 11, 12 or 13
 unfoldable pub formFor : List Cue → List ℕ → ℕ → Res Form
 formFor cs f n = andThen (need no-cue (cueAt cs n)) (λ c. formAt (streamId list-stream) f (c .position))
@@ -52,7 +62,8 @@ formFor cs f n = andThen (need no-cue (cueAt cs n)) (λ c. formAt (streamId list
 -- what is shown of cue n of the cues cs
 unfoldable pub shownFor : List Cue → List ℕ → ℕ → Res Shown
 shownFor cs f n =
-    andThen (need no-cue (cueAt cs n)) (λ c. mapRes (shownAt (c .start) (durationOf cs n)) (unitFor f (c .position)))
+    andThen (need no-cue (cueAt cs n))
+    (λ c. mapRes (shownAt (c .start) (durationOf cs n)) (timedFor (c .start) f (c .position)))
 
 abbrev pub lineOf : ℕ → Res Shown → List ℕ
 lineOf n (ok s) = shownLine n s

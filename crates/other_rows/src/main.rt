@@ -7,9 +7,14 @@
 // scratch; the bytes are the head of a file of 65,555 bytes, each i % 251, and those behind another bar stand at
 // 32,774. build_demo_spu: width, height, output, and for a picture that code builds its size, n, p and k: bytes 1 and 2
 // in turn, n at a time, but from 126,976 on p of them in pairs; or, where k is not 0, each of the first k pictures,
-// whose bytes are the digits of its number to base 4.
+// whose bytes are the digits of its number to base 4. converted: ticks. times_of: the start, as 0 and the number, or as
+// 1 and how far it is above -2^63; then 1 or 0 and a delay for the start command, and the same for the stop command.
 use bands_model::BandAnswer;
 use bands_model::LookAnswer;
+use clock_model::Micros;
+use clock_model::Num;
+use clock_model::Ticks;
+use clock_model::TimesAnswer;
 use control_model::Spu;
 use demo_model::DemoAnswer;
 use idx_numbers::starts;
@@ -124,6 +129,51 @@ fn measured(unit: &[u8]) {
         }
         SpuAnswer::Refused(n) => {
             refused(n);
+        }
+    }
+}
+
+fn signed(z: i64) {
+    if z < 0 {
+        say(b" -");
+        let n = (-1 - z) as u64;
+        io::print_decimal(STDOUT_FILENO, n + 1);
+    } else {
+        let m = z as usize;
+        said(b" @", m);
+    }
+}
+
+// The start that a row gives.
+fn start_of(above_least: usize, n: usize) -> Num {
+    if 9223372036854775807 < n {
+        return Num::Over;
+    }
+    let z = n as i64;
+    if above_least == 0 {
+        return Num::Is(z);
+    }
+    clock::plus(-9223372036854775808, z)
+}
+
+fn times(line: &[u8], above_least: usize, n: usize) {
+    let Num::Is(z) = start_of(above_least, n) else {
+        return;
+    };
+    let start = Micros(z);
+    let started = table::given(line, 2) == 1;
+    let start_delay = Ticks((table::given(line, 3) % 65536) as u16);
+    let stopped = table::given(line, 4) == 1;
+    let stop_delay = Ticks((table::given(line, 5) % 65536) as u16);
+    match clock::times_of(start, started, start_delay, stopped, stop_delay) {
+        TimesAnswer::Are(t) => {
+            say(b": show");
+            signed(t.show.0);
+            said(b", hides @, hide", t.hides as usize);
+            signed(t.hide.0);
+        }
+        TimesAnswer::Refused(refusal) => {
+            refused(refusal);
         }
     }
 }
@@ -459,6 +509,14 @@ fn asked(line: &[u8], bytes: &[u8]) {
     }
     if starts(line, b"align_through|") {
         said(b": count @", nibbles::align_through(bytes, a));
+    }
+    if starts(line, b"converted|") {
+        let micros = clock::converted(Ticks((a % 65536) as u16));
+        say(b":");
+        signed(micros.0);
+    }
+    if starts(line, b"times_of|") {
+        times(line, a, b);
     }
     if starts(line, b"chg_colcon_lookup|") {
         look_row(line, bytes, a, b);

@@ -93,6 +93,9 @@ no-top-field = 25
 abbrev pub field-ran-out : ℕ
 field-ran-out = 26
 
+abbrev pub long-instant : ℕ
+long-instant = 33
+
 abbrev pub bad-side : ℕ
 bad-side = 27
 
@@ -114,8 +117,8 @@ refusals =
     high-byte ∷ bad-width ∷ bad-height ∷ bad-token ∷ no-time ∷ no-position ∷ bad-time ∷ long-time ∷
     bad-position ∷ short-cues ∷ bad-stream ∷ no-cue ∷ past-file ∷ no-unit ∷ short-scratch ∷ no-head ∷ bad-head ∷
     cut-parameters ∷ small-size ∷ no-band-list ∷ unknown-command ∷ no-area ∷ short-pixels ∷ short-words ∷
-    short-canvas ∷ no-top-field ∷ field-ran-out ∷ bad-side ∷ not-all-indices ∷ bad-index ∷ long-unit ∷
-    short-output ∷ []
+    short-canvas ∷ no-top-field ∷ field-ran-out ∷ long-instant ∷ bad-side ∷ not-all-indices ∷ bad-index ∷
+    long-unit ∷ short-output ∷ []
 
 abbrev pub isOneOf : ℕ → List ℕ → Bool
 isOneOf n [] = false

@@ -84,6 +84,9 @@ pub const NO_TOP_FIELD: u8 = 25;
 // A field has no bytes left where a row still wants a code.
 pub const FIELD_RAN_OUT: u8 = 26;
 
+// The time at which a cue is shown or hidden leaves signed 64 bits.
+pub const LONG_INSTANT: u8 = 33;
+
 // A side of a picture to be written is not 1 to 4,096.
 pub const BAD_SIDE: u8 = 27;
 

@@ -187,10 +187,10 @@ fn cue(bytes: &[u8], n: usize, e: Expected) -> bool {
 }
 
 // The numbers of a painted cue.
-fn mixed_shown(sum: u64, s: &[u64; 10]) -> u64 {
+fn mixed_shown(sum: u64, s: &[u64; 13]) -> u64 {
     let mut t = sum;
     let mut i = 0;
-    while i < 10 {
+    while i < 13 {
         t = mixed(t, s[i]);
         i += 1;
     }
@@ -208,8 +208,8 @@ fn canvas(
     bytes: &mut [u8],
     e: Expected,
 ) -> bool {
-    let mut start: i64 = START;
-    let mut numbers: [u64; 10] = [NUMBER as u64; 10];
+    let mut times: [i64; 3] = [START; 3];
+    let mut numbers: [u64; 13] = [NUMBER as u64; 13];
     let r = vobsub_c::vobsub_decode_cue(
         text,
         file,
@@ -219,10 +219,11 @@ fn canvas(
         map,
         words,
         bytes,
-        &mut start,
+        &mut times,
         &mut numbers,
     );
-    let s = mixed_shown(mixed_signed(1, start), &numbers);
+    let u = mixed_signed(mixed_signed(mixed_signed(1, times[0]), times[1]), times[2]);
+    let s = mixed_shown(u, &numbers);
     let t = mixed_words(mixed_bytes(mixed_bytes(s, scratch), map), words);
     as_expected(e, r, mixed_bytes(t, bytes))
 }

@@ -1,6 +1,6 @@
 // Runs rows through the exported functions, and writes a line for each: the function, the row's name, its answer, and
-// the memory lent for it, with `.` for what is as found: bytes of 237, words of EEEE, starts of -77, positions of 77,
-// and for decode_rle_field both numbers of codes, of 77.
+// the memory lent for it, with `.` for what is as found: bytes of 237, words of EEEE, starts of -77, positions of 77;
+// for decode_rle_field both numbers of codes, of 77; for a refused decode_cue times of -77 and numbers of 77.
 // A line of standard input is a row: the function, its name, its numbers, its bytes, and for decode_cue the bytes of
 // the file, with a bar between them. The numbers are those of the call in its order, and how much memory is lent:
 // parse_and_decode_spu: map, words. extract_spu: position, stream; scratch. parse_idx: starts, positions.
@@ -89,6 +89,10 @@ fn of_word(w: u16) -> usize {
     w as usize
 }
 
+fn of_long(n: u64) -> usize {
+    n as usize
+}
+
 fn value(bytes: &[u8], words: &[u16], i: usize) -> usize {
     if i < bytes.len() {
         return of_byte(bytes[i]);
@@ -99,6 +103,13 @@ fn value(bytes: &[u8], words: &[u16], i: usize) -> usize {
     65536
 }
 
+fn any_value(bytes: &[u8], words: &[u16], longs: &[u64], i: usize) -> usize {
+    if i < longs.len() {
+        return of_long(longs[i]);
+    }
+    value(bytes, words, i)
+}
+
 fn run(count: usize, value: usize, found: usize) {
     if value == found {
         form(b" @x.", &[count; 17]);
@@ -107,14 +118,14 @@ fn run(count: usize, value: usize, found: usize) {
     pair(b" @xA", count, value);
 }
 
-// The n bytes or words in runs of equal values, `NxV`.
-fn runs(bytes: &[u8], words: &[u16], n: usize, found: usize) {
+// The n bytes, words or numbers in runs of equal values, `NxV`.
+fn runs(bytes: &[u8], words: &[u16], longs: &[u64], n: usize, found: usize) {
     let mut from = 0;
     let mut i = 0;
     while i < n {
-        let v = value(bytes, words, i);
+        let v = any_value(bytes, words, longs, i);
         i += 1;
-        if value(bytes, words, i) != v {
+        if any_value(bytes, words, longs, i) != v {
             run(i - from, v, found);
             from = i;
         }
@@ -123,7 +134,7 @@ fn runs(bytes: &[u8], words: &[u16], n: usize, found: usize) {
 
 fn byte_runs(label: &[u8], s: &[u8]) {
     say(label);
-    runs(s, &[], s.len(), 237);
+    runs(s, &[], &[], s.len(), 237);
 }
 
 fn cell(v: usize, found: usize) {
@@ -243,10 +254,6 @@ fn all_starts(starts: &[i64]) {
     }
 }
 
-fn of_long(n: u64) -> usize {
-    n as usize
-}
-
 fn position(n: u64) {
     if n == FOUND_POSITION {
         say(b" .");
@@ -316,10 +323,10 @@ fn index(text: &[u8], a: usize, b: usize) {
     }
 }
 
-fn sizes(numbers: &[u64; 10]) -> [usize; 17] {
+fn sizes(numbers: &[u64; 13]) -> [usize; 17] {
     let mut all = [0; 17];
     let mut i = 0;
-    while i < 10 {
+    while i < 13 {
         all[i] = of_long(numbers[i]);
         i += 1;
     }
@@ -349,21 +356,42 @@ fn cue(text: &[u8], n: usize) {
     }
 }
 
-fn shown(refusal: u8, start: i64, numbers: &[u64; 10]) {
+// What a refusal leaves of times and numbers.
+fn kept(times: &[i64; 3], numbers: &[u64; 13]) {
+    let begin = times[0];
+    let show = times[1];
+    let hide = times[2];
+    say(b", times");
+    start(begin);
+    start(show);
+    start(hide);
+    say(b", numbers");
+    runs(b"", &[], numbers, 13, 77);
+}
+
+fn shown(refusal: u8, times: &[i64; 3], numbers: &[u64; 13]) {
     if answered(refusal) {
+        let begin = times[0];
+        let show = times[1];
+        let hide = times[2];
         say(b":");
-        signed(start);
+        signed(begin);
         lasts(numbers[0], numbers[1]);
         form(
-            b", at D E, size F G, delays B C, codes H, clipped I",
+            b", at D E, size F G, delays B C, codes H, clipped I, started J, stopped K, hides L, show",
             &sizes(numbers),
         );
+        signed(show);
+        say(b", hide");
+        signed(hide);
+        return;
     }
+    kept(times, numbers);
 }
 
 fn word_runs(label: &[u8], s: &[u16]) {
     say(label);
-    runs(b"", s, s.len(), 61166);
+    runs(b"", s, &[], s.len(), 61166);
 }
 
 fn painted(
@@ -375,8 +403,8 @@ fn painted(
     words: &mut [u16],
     canvas: &mut [u8],
 ) {
-    let mut start: i64 = FOUND_START;
-    let mut numbers: [u64; 10] = [FOUND_POSITION; 10];
+    let mut times: [i64; 3] = [FOUND_START; 3];
+    let mut numbers: [u64; 13] = [FOUND_POSITION; 13];
     let refusal = vobsub_c::vobsub_decode_cue(
         text,
         file,
@@ -386,10 +414,10 @@ fn painted(
         map,
         words,
         canvas,
-        &mut start,
+        &mut times,
         &mut numbers,
     );
-    shown(refusal, start, &numbers);
+    shown(refusal, &times, &numbers);
     byte_runs(b"; scratch", scratch);
     byte_runs(b"; map", map);
     word_runs(b"; words", words);

@@ -7,9 +7,8 @@ use lib.Seq.{sets}
 use Rattle.grammar.specs.Bands.{bandWords}
 use Rattle.grammar.specs.Rows.{Code}
 use Rattle.grammar.specs.Pixels.{indexMap, codesIn, clippedIn}
-use Rattle.grammar.specs.Record.{Told, told, delayOf, width, height}
+use Rattle.grammar.specs.Record.{Told, told, given, delayOf, width, height}
 use Rattle.grammar.specs.Picture.{ListedUnit, IsUnit}
-use Rattle.control_model.specs.Answers.{given}
 use Rattle.control_model.specs.declared.Spu.{Spu}
 use Rattle.spu_model.specs.declared.SpuAnswer.{SpuAnswer}
 use Rattle.spu_model.specs.declared.SpuAnswer.the-variants as spu-answer
@@ -27,9 +26,9 @@ pub record Recorded (t : Told) (rs : List (List Code)) (s : Spu) : Type 0 where
   pub selected : s .«palette_sel» ≡ t .selected
   pub alpha : s .alpha ≡ t .alpha
   pub started : s .started ≡ given (t .starts)
-  pub start-delay : s .«start_delay_raw» ≡ delayOf (t .starts)
+  pub start-delay : s .«start_delay_raw» .0 ≡ delayOf (t .starts)
   pub stopped : s .stopped ≡ given (t .stops)
-  pub stop-delay : s .«stop_delay_raw» ≡ delayOf (t .stops)
+  pub stop-delay : s .«stop_delay_raw» .0 ≡ delayOf (t .stops)
   pub forced : s .«forced_display» ≡ t .forced
   pub top : s .«top_rle_off» ≡ t .fields .top
   pub bottom : s .«bot_rle_off» ≡ t .fields .bottom

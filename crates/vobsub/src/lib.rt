@@ -1,16 +1,20 @@
 // The one call, from index text, file, cue number and stream to a cue's canvas, with painting inside it
 // (docs/FORMAT.md, section 6).
 use bands_model::LookAnswer;
+use clock_model::Times;
+use clock_model::TimesAnswer;
 use control_model::ControlAnswer;
 use control_model::Spu;
 use idx_model::CueAnswer;
 use outcome::BAD_STREAM;
+use outcome::LONG_INSTANT;
 use outcome::NO_CUE;
 use outcome::SHORT_CANVAS;
 use outcome::SHORT_PIXELS;
 use outcome::SHORT_WORDS;
 use ps::TOP_STREAM;
 use ps_model::UnitAnswer;
+use rle_model::FieldAnswer;
 use spu_model::SpuAnswer;
 use vobsub_model::CanvasAnswer;
 use vobsub_model::Four;
@@ -30,7 +34,8 @@ ghost use Rattle.grammar.specs.Canvas.{nibbleOf, pixel, lineBytes};
 ghost use Rattle.ps_model.specs.Answers.{unitPart};
 ghost use Rattle.grammar.specs.Reading.{wanted};
 ghost use Rattle.vobsub_model.specs.Call.{lent};
-ghost use Rattle.vobsub_model.specs.Answers.{UnitPainted, shownOf, FoundPainted, firstRefusal, CuePainted};
+ghost use Rattle.spu_model.specs.Unit.{rowsAt};
+ghost use Rattle.vobsub_model.specs.Answers.{UnitPainted, shownOf, lateRefusal, firstRefusal, CuePainted};
 ghost use Rattle.vobsub_model.specs.Claim.{Exactly, Undisturbed};
 ghost use Rattle.vobsub_model.specs.Paint.{lookIs, wordLook, sameLook, fourColours, tableLine, mapCanvas};
 ghost use Rattle.rle_model.specs.Answers.{nothing};
@@ -239,30 +244,88 @@ fn paint(
     }
 }
 
-// The rest of a unit whose control blocks tell `spu`: its record, map, bands and canvas.
+// A cue's start and duration with the record and the times of its unit.
+// Ruled out: x1 and y1 in each other's place; the delay of the stop for that of the start; the hide time for the show
+// time.
+fn shown_of(c: CueAnswer, s: Spu, times: Times) -> Shown
+    requires { ⌜ (s .x1 ≤ s .x2) × (s .y1 ≤ s .y2) ⌝ }
+    ensures { λ r. ⌜ r ≡ shownOf c s times ⌝ }
+{
+    let width = s.x2 as usize + 1 - s.x1 as usize;
+    let height = s.y2 as usize + 1 - s.y1 as usize;
+    let start = c.start;
+    let duration = c.duration;
+    let start_delay = s.start_delay_raw;
+    let stop_delay = s.stop_delay_raw;
+    let show = times.show;
+    let hide = times.hide;
+    Shown {
+        start,
+        has_duration: c.has_duration,
+        duration,
+        started: s.started,
+        stopped: s.stopped,
+        start_delay,
+        stop_delay,
+        show,
+        hides: times.hides,
+        hide,
+        x1: s.x1,
+        y1: s.y1,
+        width,
+        height,
+        codes: s.codes,
+        clipped: s.clipped,
+    }
+}
+
+// The refusal of a unit whose control blocks tell `spu` and whose times leave. Nothing is stored yet, so that its rows,
+// which may be refused first, are only measured.
+// Ruled out: a time that leaves before rows that are refused.
+fn late_refusal(unit: &[u8], spu: Spu) -> u8
+    requires { ⌜ ((bs : List Block) × (controlAt (now unit) ≡ ok bs) × (spu ≡ spuOf (told bs) nothing)) ⌝ }
+    ensures { λ r. ⌜ ((bs : List Block) → controlAt (now (unit .entry)) ≡ ok bs → r ≡ lateRefusal (rowsAt (now (unit .entry)) (told bs))) ⌝ }
+{
+    match spu::measure_rows(unit, spu) {
+        FieldAnswer::Rows(_) => LONG_INSTANT,
+        FieldAnswer::Refused(number) => number,
+    }
+}
+
+// The rest of a unit of the cue c whose control blocks tell `spu`: what is shown, map, bands and canvas.
 fn paint_told(
     unit: &[u8],
     spu: Spu,
-    palette: [u8; 48],
+    c: CueAnswer,
     pixels: &mut [u8],
     words: &mut [u16],
     canvas: &mut [u8],
-) -> SpuAnswer
+) -> CanvasAnswer
     requires { ⌜ ((bs : List Block) × (controlAt (now unit) ≡ ok bs) × (spu ≡ spuOf (told bs) nothing)) ⌝ }
-    ensures { λ r. ⌜ UnitPainted (now (unit .entry)) palette (now (pixels .entry)) (now (words .entry)) (now (canvas .entry)) r (now (pixels .exit)) (now (words .exit)) (now (canvas .exit)) ⌝ }
+    ensures { λ r. ⌜ UnitPainted (now (unit .entry)) c (now (pixels .entry)) (now (words .entry)) (now (canvas .entry)) r (now (pixels .exit)) (now (words .exit)) (now (canvas .exit)) ⌝ }
 {
     let width = spu.x2 as usize + 1 - spu.x1 as usize;
     let height = spu.y2 as usize + 1 - spu.y1 as usize;
     let area = width * height;
     if pixels.len() < area {
-        return SpuAnswer::Refused(SHORT_PIXELS);
+        return CanvasAnswer::Refused(SHORT_PIXELS);
     }
     if words.len() < spu.band_words {
-        return SpuAnswer::Refused(SHORT_WORDS);
+        return CanvasAnswer::Refused(SHORT_WORDS);
     }
     if canvas.len() < 4 * area {
-        return SpuAnswer::Refused(SHORT_CANVAS);
+        return CanvasAnswer::Refused(SHORT_CANVAS);
     }
+    let TimesAnswer::Are(times) = clock::times_of(
+        c.start,
+        spu.started,
+        spu.start_delay_raw,
+        spu.stopped,
+        spu.stop_delay_raw,
+    ) else {
+        return CanvasAnswer::Refused(late_refusal(unit, spu));
+    };
+    let palette = c.palette;
     match spu::decode_told(unit, spu, pixels, words) {
         SpuAnswer::Shows(s) => {
             paint(
@@ -277,49 +340,27 @@ fn paint_told(
                 &pixels[..],
                 canvas,
             );
-            SpuAnswer::Shows(s)
+            CanvasAnswer::Paints(shown_of(c, s, times))
         }
-        SpuAnswer::Refused(number) => SpuAnswer::Refused(number),
+        SpuAnswer::Refused(number) => CanvasAnswer::Refused(number),
     }
 }
 
-// A unit's record, with its map, bands and canvas in the front of the lent buffers, which are as found on a refusal.
-// Ruled out: a canvas in the map's place; a canvas of rows that are refused.
+// A unit of the cue c: what is shown, with its map, bands and canvas in the front of the lent buffers, which are as
+// found on a refusal.
+// Ruled out: a canvas in the map's place; a canvas of rows that are refused; one of a cue whose times leave.
 fn paint_unit(
     unit: &[u8],
-    palette: [u8; 48],
+    c: CueAnswer,
     pixels: &mut [u8],
     words: &mut [u16],
     canvas: &mut [u8],
-) -> SpuAnswer
-    ensures { λ r. ⌜ UnitPainted (now (unit .entry)) palette (now (pixels .entry)) (now (words .entry)) (now (canvas .entry)) r (now (pixels .exit)) (now (words .exit)) (now (canvas .exit)) ⌝ }
+) -> CanvasAnswer
+    ensures { λ r. ⌜ UnitPainted (now (unit .entry)) c (now (pixels .entry)) (now (words .entry)) (now (canvas .entry)) r (now (pixels .exit)) (now (words .exit)) (now (canvas .exit)) ⌝ }
 {
     match control::parse_control(unit) {
-        ControlAnswer::Tells(spu) => paint_told(unit, spu, palette, pixels, words, canvas),
-        ControlAnswer::Refused(number) => SpuAnswer::Refused(number),
-    }
-}
-
-// A cue's times with the record of its unit.
-// Ruled out: x1 and y1 in each other's place; the delay of the stop for that of the start.
-fn shown_of(c: CueAnswer, s: Spu) -> Shown
-    requires { ⌜ (s .x1 ≤ s .x2) × (s .y1 ≤ s .y2) ⌝ }
-    ensures { λ r. ⌜ r ≡ shownOf c s ⌝ }
-{
-    let width = s.x2 as usize + 1 - s.x1 as usize;
-    let height = s.y2 as usize + 1 - s.y1 as usize;
-    Shown {
-        start: c.start,
-        has_duration: c.has_duration,
-        duration: c.duration,
-        start_delay: s.start_delay_raw,
-        stop_delay: s.stop_delay_raw,
-        x1: s.x1,
-        y1: s.y1,
-        width,
-        height,
-        codes: s.codes,
-        clipped: s.clipped,
+        ControlAnswer::Tells(spu) => paint_told(unit, spu, c, pixels, words, canvas),
+        ControlAnswer::Refused(number) => CanvasAnswer::Refused(number),
     }
 }
 
@@ -333,14 +374,10 @@ fn paint_found<'a>(
     words: &mut [u16],
     canvas: &mut [u8],
 ) -> CanvasAnswer
-    ensures { λ r. ⌜ FoundPainted (unitPart (now (file .entry)) (now (scratch .entry)) (c .position) unit) c (now (pixels .entry)) (now (words .entry)) (now (canvas .entry)) r (now (pixels .exit)) (now (words .exit)) (now (canvas .exit)) ⌝ }
+    ensures { λ r. ⌜ UnitPainted (unitPart (now (file .entry)) (now (scratch .entry)) (c .position) unit) c (now (pixels .entry)) (now (words .entry)) (now (canvas .entry)) r (now (pixels .exit)) (now (words .exit)) (now (canvas .exit)) ⌝ }
 {
     let bytes = ps::unit_part(file, scratch, c.position as usize, unit);
-    let palette = c.palette;
-    match paint_unit(bytes, palette, pixels, words, canvas) {
-        SpuAnswer::Shows(s) => CanvasAnswer::Paints(shown_of(c, s)),
-        SpuAnswer::Refused(number) => CanvasAnswer::Refused(number),
-    }
+    paint_unit(bytes, c, pixels, words, canvas)
 }
 
 // The refusal of a text or of a cue: of a text first, then of a stream, then of a cue that is not there.

@@ -14,7 +14,7 @@ use Rattle.ps_model.proofs.Streams.{stream-same}
 use Rattle.vobsub_model.specs.Call.{Lent, Found}
 use Rattle.vobsub_model.specs.Answers.{canvasAnswer, scratchOf, pixelsOf, bandsOf, paintedOf}
 use Rattle.vobsub_model.proofs.Streams.{found-same, reading-same}
-use Rattle.vobsub_c.specs.Answers.{unitRefusal, unitLength, unitJoined, UnitExtracted, UnitUndisturbed, canvasRefusal, canvasStart, canvasRecord, CueDecoded, CueUndisturbed}
+use Rattle.vobsub_c.specs.Answers.{unitRefusal, unitLength, unitJoined, UnitExtracted, UnitUndisturbed, canvasRefusal, canvasTimes, canvasRecord, CueDecoded, CueUndisturbed}
 
 -- the equation with the claim, as the contract has both
 pub unit-kept : (f : List ℕ) (p n : ℕ) (s : List ℕ) (l j r : ℕ) (s′ : List ℕ) (l′ j′ : ℕ)
@@ -32,18 +32,18 @@ unit-kept f p n s l j r s′ l′ j′ x = (
       },
 )
 
-pub cue-kept : (text f : List ℕ) (q : Wanted) (b : Lent) (z : ℤ) (ns : List ℕ) (r : ℕ) (b′ : Lent) (z′ : ℤ) (ns′ : List ℕ)
-    → CueDecoded text f q b z ns r b′ z′ ns′
-    → CueDecoded text f q b z ns r b′ z′ ns′ × CueUndisturbed text f q b z ns r b′ z′ ns′
-cue-kept text f q b z ns r b′ z′ ns′ x = (
+pub cue-kept : (text f : List ℕ) (q : Wanted) (b : Lent) (zs : List ℤ) (ns : List ℕ) (r : ℕ) (b′ : Lent) (zs′ : List ℤ) (ns′ : List ℕ)
+    → CueDecoded text f q b zs ns r b′ zs′ ns′
+    → CueDecoded text f q b zs ns r b′ zs′ ns′ × CueUndisturbed text f q b zs ns r b′ zs′ ns′
+cue-kept text f q b zs ns r b′ zs′ ns′ x = (
   x,
-  λ g ls c ps i e w a t b″ z″ ns″ y.
+  λ g ls c ps i e w a t b″ zs″ ns″ y.
       let d = found-same text f g q ls c ps i e w a (length (b .scratch)) in
       let o = reading-same text f g q ls c ps i e w a b in
       record {
         readings = readings-same text q ls c i e f g ps w a;
         refusal = x .refusal ∙ ap (λ (v : Res Reading). canvasRefusal (canvasAnswer v)) o ∙ sym (y .refusal);
-        starts-at = x .starts-at ∙ ap (λ (v : Res Reading). canvasStart (canvasAnswer v) z) o ∙ sym (y .starts-at);
+        timed = x .timed ∙ ap (λ (v : Res Reading). canvasTimes (canvasAnswer v) zs) o ∙ sym (y .timed);
         told = x .told ∙ ap (λ (v : Res Reading). canvasRecord (canvasAnswer v) ns) o ∙ sym (y .told);
         scratch = x .in-scratch ∙ ap (λ (v : Res Found). sets (b .scratch) 0 (scratchOf v)) d ∙ sym (y .in-scratch);
         pixels = x .in-pixels ∙ ap (λ (v : Res Reading). sets (b .pixels) 0 (pixelsOf v)) o ∙ sym (y .in-pixels);

@@ -47,7 +47,7 @@ use Rattle.vobsub_model.specs.Answers.{canvasAnswer, scratchOf, pixelsOf, bands
 use Rattle.vobsub_model.specs.Claim.{Exactly}
 use Rattle.vobsub_model.specs.declared.CanvasAnswer.{CanvasAnswer}
 use Rattle.vobsub_model.specs.declared.CanvasAnswer.the-variants as canvas-answer
-use Rattle.vobsub_numbers.specs.Numbers.{spuNumbers, idxNumbers, cueNumbers, shownNumbers}
+use Rattle.vobsub_numbers.specs.Numbers.{spuNumbers, idxNumbers, cueNumbers, shownNumbers, shownTimes}
 
 -- the refusal of an answer, 0 where there is none
 abbrev pub bandRefusal : BandAnswer → ℕ
@@ -183,7 +183,7 @@ abbrev pub cueRecord : CueAnswer → List ℕ → List ℕ
 cueRecord a before = cond (eqb (a .refused) 0) (cueNumbers a) before
 
 abbrev pub cueStart : CueAnswer → ℤ → ℤ
-cueStart a before = cond (eqb (a .refused) 0) (a .start) before
+cueStart a before = cond (eqb (a .refused) 0) (a .start .0) before
 
 abbrev pub cuePalette : CueAnswer → List ℕ → List ℕ
 cuePalette a before = cond (eqb (a .refused) 0) (a .palette) before
@@ -199,20 +199,20 @@ abbrev pub canvasRefusal : CanvasAnswer → ℕ
 canvasRefusal (canvas-answer.Paints s) = 0
 canvasRefusal (canvas-answer.Refused k) = k
 
--- those and the start of an answer, or what was there
+-- those and the times of an answer, or what was there
 abbrev pub canvasRecord : CanvasAnswer → List ℕ → List ℕ
 canvasRecord (canvas-answer.Paints s) before = shownNumbers s
 canvasRecord (canvas-answer.Refused k) before = before
 
-abbrev pub canvasStart : CanvasAnswer → ℤ → ℤ
-canvasStart (canvas-answer.Paints s) before = s .start
-canvasStart (canvas-answer.Refused k) before = before
+abbrev pub canvasTimes : CanvasAnswer → List ℤ → List ℤ
+canvasTimes (canvas-answer.Paints s) before = shownTimes s
+canvasTimes (canvas-answer.Refused k) before = before
 
 -- the answer with its numbers, what the four buffers hold, and the call's claim on whole files
-pub record CueDecoded (text file : List ℕ) (q : Wanted) (b : Lent) (start : ℤ) (numbers : List ℕ) (r : ℕ) (b′ : Lent) (start′ : ℤ) (numbers′ : List ℕ) : Type 0 where
+pub record CueDecoded (text file : List ℕ) (q : Wanted) (b : Lent) (times : List ℤ) (numbers : List ℕ) (r : ℕ) (b′ : Lent) (times′ : List ℤ) (numbers′ : List ℕ) : Type 0 where
   pub refusal : r ≡ canvasRefusal (canvasAnswer (readingIn text file q b))
   pub returned : Returned (readingIn text file q b) r
-  pub starts-at : start′ ≡ canvasStart (canvasAnswer (readingIn text file q b)) start
+  pub timed : times′ ≡ canvasTimes (canvasAnswer (readingIn text file q b)) times
   pub told : numbers′ ≡ canvasRecord (canvasAnswer (readingIn text file q b)) numbers
   pub in-scratch : b′ .scratch ≡ sets (b .scratch) 0 (scratchOf (foundFor text file q (length (b .scratch))))
   pub in-pixels : b′ .pixels ≡ sets (b .pixels) 0 (pixelsOf (readingIn text file q b))
@@ -221,10 +221,10 @@ pub record CueDecoded (text file : List ℕ) (q : Wanted) (b : Lent) (start : �
   pub exactly : Exactly text file q b (canvasAnswer (readingIn text file q b)) b′
 
 -- two files give a cue the same readings, and two calls return and leave the same
-pub record SameDecoded (text file other : List ℕ) (q : Wanted) (r t : ℕ) (b c : Lent) (start start′ : ℤ) (numbers numbers′ : List ℕ) : Type 0 where
+pub record SameDecoded (text file other : List ℕ) (q : Wanted) (r t : ℕ) (b c : Lent) (times times′ : List ℤ) (numbers numbers′ : List ℕ) : Type 0 where
   pub readings : (x : Reading) → IsReading text file q x ↔ IsReading text other q x
   pub refusal : r ≡ t
-  pub starts-at : start ≡ start′
+  pub timed : times ≡ times′
   pub told : numbers ≡ numbers′
   pub scratch : b .scratch ≡ c .scratch
   pub pixels : b .pixels ≡ c .pixels
@@ -233,10 +233,10 @@ pub record SameDecoded (text file other : List ℕ) (q : Wanted) (r t : ℕ) (b 
 
 -- a file that differs from this one in packets of other streams alone, among those walked from the cue's position,
 -- gives the same (FORMAT 2.11)
-abbrev pub CueUndisturbed : List ℕ → List ℕ → Wanted → Lent → ℤ → List ℕ → ℕ → Lent → ℤ → List ℕ → Type 0
-CueUndisturbed text file q b start numbers r b′ start′ numbers′ =
+abbrev pub CueUndisturbed : List ℕ → List ℕ → Wanted → Lent → List ℤ → List ℕ → ℕ → Lent → List ℤ → List ℕ → Type 0
+CueUndisturbed text file q b times numbers r b′ times′ numbers′ =
     (other : List ℕ) (index : ListedText) (c : Cue) (ps : List Packet)
     → IsText text index → cueAt (cuesOf index) (q .cue) ≡ some c
     → Walk (wantedId q) file (c .position) [] ps → Alike (q .stream) file other ps
-    → (t : ℕ) (b″ : Lent) (start″ : ℤ) (numbers″ : List ℕ) → CueDecoded text other q b start numbers t b″ start″ numbers″
-    → SameDecoded text file other q r t b′ b″ start′ start″ numbers′ numbers″
+    → (t : ℕ) (b″ : Lent) (times″ : List ℤ) (numbers″ : List ℕ) → CueDecoded text other q b times numbers t b″ times″ numbers″
+    → SameDecoded text file other q r t b′ b″ times′ times″ numbers′ numbers″

@@ -11,6 +11,7 @@ use vobsub_numbers::cue_numbers_of;
 use vobsub_numbers::idx_numbers_of;
 use vobsub_numbers::numbers_of;
 use vobsub_numbers::shown_numbers_of;
+use vobsub_numbers::shown_times_of;
 ghost use Rattle.grammar.specs.Reading.{wanted};
 ghost use Rattle.vobsub_model.specs.Call.{lent};
 ghost use Rattle.vobsub_c.specs.Answers.{BandsGiven, UnitExtracted, UnitUndisturbed, FieldDecoded, BodyFound, UnitDecoded, UnitWritten, IndexGiven, CueGiven, CueDecoded, CueUndisturbed};
@@ -182,7 +183,8 @@ pub extern "C" fn vobsub_pick_cue(
 {
     let a = idx::pick_cue(text, cue);
     if a.refused == 0 {
-        let from = a.start;
+        let time = a.start;
+        let from = time.0;
         let colours = a.palette;
         *start = from;
         *palette = colours;
@@ -194,8 +196,8 @@ pub extern "C" fn vobsub_pick_cue(
 
 // One cue of a title in one stream, from index text and file: its canvas in the front of `canvas`, its index map in the
 // front of `pixels`, its bands in the front of `words`, its unit in the front of `scratch` where packets hold it, its
-// start, and its other numbers.
-// Ruled out: a start or numbers set on a refusal; a canvas whose start is left as found.
+// start with its show and hide times, and its other numbers.
+// Ruled out: times or numbers set on a refusal; a canvas whose times are left as found.
 #[no_mangle]
 pub extern "C" fn vobsub_decode_cue(
     text: &[u8],
@@ -206,16 +208,15 @@ pub extern "C" fn vobsub_decode_cue(
     pixels: &mut [u8],
     words: &mut [u16],
     canvas: &mut [u8],
-    start: &mut i64,
-    numbers: &mut [u64; 10],
+    times: &mut [i64; 3],
+    numbers: &mut [u64; 13],
 ) -> u8
-    ensures { λ r. ⌜ CueDecoded (now (text .entry)) (now (file .entry)) (wanted cue stream) (lent (now (scratch .entry)) (now (pixels .entry)) (now (words .entry)) (now (canvas .entry))) (now (start .entry)) (now (numbers .entry)) r (lent (now (scratch .exit)) (now (pixels .exit)) (now (words .exit)) (now (canvas .exit))) (now (start .exit)) (now (numbers .exit))
-        × CueUndisturbed (now (text .entry)) (now (file .entry)) (wanted cue stream) (lent (now (scratch .entry)) (now (pixels .entry)) (now (words .entry)) (now (canvas .entry))) (now (start .entry)) (now (numbers .entry)) r (lent (now (scratch .exit)) (now (pixels .exit)) (now (words .exit)) (now (canvas .exit))) (now (start .exit)) (now (numbers .exit)) ⌝ }
+    ensures { λ r. ⌜ CueDecoded (now (text .entry)) (now (file .entry)) (wanted cue stream) (lent (now (scratch .entry)) (now (pixels .entry)) (now (words .entry)) (now (canvas .entry))) (now (times .entry)) (now (numbers .entry)) r (lent (now (scratch .exit)) (now (pixels .exit)) (now (words .exit)) (now (canvas .exit))) (now (times .exit)) (now (numbers .exit))
+        × CueUndisturbed (now (text .entry)) (now (file .entry)) (wanted cue stream) (lent (now (scratch .entry)) (now (pixels .entry)) (now (words .entry)) (now (canvas .entry))) (now (times .entry)) (now (numbers .entry)) r (lent (now (scratch .exit)) (now (pixels .exit)) (now (words .exit)) (now (canvas .exit))) (now (times .exit)) (now (numbers .exit)) ⌝ }
 {
     match vobsub::decode_cue(text, file, cue, stream, scratch, pixels, words, canvas) {
         CanvasAnswer::Paints(s) => {
-            let from = s.start;
-            *start = from;
+            *times = shown_times_of(s);
             *numbers = shown_numbers_of(s);
             0
         }

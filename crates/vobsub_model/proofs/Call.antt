@@ -5,6 +5,7 @@ use mathlib.Core.Path.{_≡_, refl, sym, ap, _∙_, subst}
 use mathlib.Core.Bool.{Bool, true, false, cond}
 use mathlib.Core.Option.{Option, some, none}
 use mathlib.Core.List.{List}
+use lib.IntN.{ℤ}
 use lib.ListN.{length}
 use lib.Seq.{sets}
 use lib.Dec.{leb}
@@ -15,7 +16,10 @@ use Rattle.grammar.specs.IndexCues.{Cue, cuesOf, cueAt}
 use Rattle.grammar.specs.Packets.{Form, bare, packets, unitOf, streamId, top-stream}
 use Rattle.grammar.specs.Record.{told}
 use Rattle.grammar.specs.Picture.{ListedUnit}
-use Rattle.grammar.specs.Reading.{Wanted, Reading, startAt, shown, mapOf, wordsOf, unitCanvas, canvasOf}
+use Rattle.grammar.specs.Reading.{Wanted, Reading, startAt, toldBy, readingStart, shown, mapOf, wordsOf, unitCanvas, canvasOf}
+use Rattle.clock_model.specs.Clock.{toldStay, inTime}
+use Rattle.clock_model.specs.Answers.{micros}
+use Rattle.clock_model.proofs.Clock.{time-through}
 use Rattle.control_model.specs.Answers.{spuOf}
 use Rattle.idx_model.specs.Text.{idxOf}
 use Rattle.idx_model.specs.Answers.{pickOf, cueAnswer}
@@ -30,10 +34,10 @@ use Rattle.ps_model.specs.declared.UnitAnswer.{UnitAnswer}
 use Rattle.ps_model.specs.declared.UnitAnswer.the-variants as unit-answer
 use Rattle.ps_model.proofs.Grammar.{form-iff}
 use Rattle.ps_model.proofs.Claim.{stream-sound, unit-there}
-use Rattle.spu_model.specs.Answers.{spuAnswer, unitMap, unitBands}
+use Rattle.spu_model.specs.Answers.{unitMap, unitBands}
 use Rattle.grammar.specs.Reading.{wanted}
-use Rattle.vobsub_model.specs.Call.{Lent, lent, Found, found, foundFor, canvasIn, reading, readingIn}
-use Rattle.vobsub_model.specs.Answers.{canvasStored, shownOf, paintsOf, FoundPainted, firstRefusal, shownGiven, canvasAnswer, scratchOf, pixelsOf, bandsOf, paintedOf, CuePainted}
+use Rattle.vobsub_model.specs.Call.{Lent, lent, Found, found, foundFor, canvasIn, timedIn, reading, listedIn, readingIn}
+use Rattle.vobsub_model.specs.Answers.{canvasStored, timesTold, shownOf, paintsOf, UnitPainted, firstRefusal, shownGiven, canvasAnswer, scratchOf, pixelsOf, bandsOf, paintedOf, CuePainted}
 use Rattle.vobsub_model.specs.Claim.{Exactly, Undisturbed}
 use Rattle.vobsub_model.proofs.Claim.{claim}
 use Rattle.vobsub_model.proofs.Streams.{undisturbed}
@@ -61,7 +65,7 @@ module _ (text file : List ℕ) (cue stream : ℕ) (s px ws cv : List ℕ) where
   -- a unit that is not found: nothing is stored
   refused-all : (n : ℕ) → foundFor text file (wanted cue stream) (length s) ≡ refuse n
       → CuePainted text file (wanted cue stream) before (canvas-answer.Refused n) before
-  unfolding readingIn
+  unfolding readingIn listedIn
   refused-all n e = record { answer = rw e; in-scratch = rw e; in-pixels = rw e; in-words = rw e; in-canvas = rw e }
 
   module _ (c : CueAnswer) (e : c ≡ cueAnswer (pickOf (idxOf text) cue)) where
@@ -134,19 +138,27 @@ module _ (text file : List ℕ) (cue stream : ℕ) (s px ws cv : List ℕ) where
               subst (λ (l : List ℕ). CuePainted text file (wanted cue stream) before (canvas-answer.Refused n) (lent l px ws cv)) (sym k)
               (refused-all n (found-is ∙ ap (mapRes (found index)) f ∙ ap refuse (sym z)))
 
+      start-is : c .start .0 ≡ startAt (cueAt (cuesOf index) cue)
+      start-is = gives .start ∙ ap startAt (sym cue-is)
+
       -- what is shown is what the reading shows
       shown-is : (m : Form) (l : ListedUnit)
-          → shownOf c (spuOf (told (l .blocks)) (countsOf l)) ≡ shownGiven (shown (reading (wanted cue stream) (found index m) l))
+          → shownOf c (spuOf (told (l .blocks)) (countsOf l)) (timesTold (c .start .0) (told (l .blocks)))
+          ≡ shownGiven (shown (reading (wanted cue stream) (found index m) l))
       unfolding shownGiven shown spuOf
       shown-is m l =
-          let z : c .start ≡ startAt (cueAt (cuesOf index) cue) = gives .start ∙ ap startAt (sym cue-is) in
-          let t : Shown = shownOf c (spuOf (told (l .blocks)) (countsOf l)) in
+          let t : Shown = shownOf c (spuOf (told (l .blocks)) (countsOf l)) (timesTold (c .start .0) (told (l .blocks))) in
           λ i. record {
-            start = z i;
+            start = micros (start-is i);
             «has_duration» = gives .lasts i;
-            duration = gives .duration i;
+            duration = micros (gives .duration i);
+            started = t .started;
+            stopped = t .stopped;
             «start_delay» = t .«start_delay»;
             «stop_delay» = t .«stop_delay»;
+            show = timesTold (start-is i) (told (l .blocks)) .show;
+            hides = timesTold (start-is i) (told (l .blocks)) .hides;
+            hide = timesTold (start-is i) (told (l .blocks)) .hide;
             x1 = t .x1;
             y1 = t .y1;
             width = t .width;
@@ -156,25 +168,37 @@ module _ (text file : List ℕ) (cue stream : ℕ) (s px ws cv : List ℕ) where
           }
 
       module _ (m : Form) (f : streamUnit stream file (c .position) (length s) ≡ ok m) where
-        reads : readingIn text file (wanted cue stream) before ≡ mapRes (reading (wanted cue stream) (found index m)) (canvasIn (unitOf m) (length px) (length ws) (length cv))
-        unfolding readingIn
-        reads = rw (found-is ∙ ap (mapRes (found index)) f)
+        abbrev found-in : Res ListedUnit
+        found-in = timedIn (c .start .0) (unitOf m) (length px) (length ws) (length cv)
+
+        listed : listedIn text file (wanted cue stream) before ≡ mapRes (reading (wanted cue stream) (found index m)) (canvasIn (unitOf m) (length px) (length ws) (length cv))
+        unfolding listedIn
+        listed = rw (found-is ∙ ap (mapRes (found index)) f)
+
+        reads : readingIn text file (wanted cue stream) before ≡ mapRes (reading (wanted cue stream) (found index m)) found-in
+        unfolding readingIn timedIn
+        reads =
+            ap (inTime (λ x. toldStay (readingStart x) (toldBy x))) listed
+            ∙ time-through (reading (wanted cue stream) (found index m)) (λ x. toldStay (readingStart x) (toldBy x)) (canvasIn (unitOf m) (length px) (length ws) (length cv))
+            ∙ ap
+            (λ (z : ℤ). mapRes (reading (wanted cue stream) (found index m)) (inTime (λ (l : ListedUnit). toldStay z (told (l .blocks))) (canvasIn (unitOf m) (length px) (length ws) (length cv))))
+            (sym start-is)
 
         painted-all : (a : CanvasAnswer) (s′ px′ ws′ cv′ : List ℕ) → s′ ≡ sets s 0 (formStored m)
-            → FoundPainted (unitOf m) c px ws cv a px′ ws′ cv′
+            → UnitPainted (unitOf m) c px ws cv a px′ ws′ cv′
             → CuePainted text file (wanted cue stream) before a (lent s′ px′ ws′ cv′)
         unfolding mapOf wordsOf canvasOf
         painted-all a s′ px′ ws′ cv′ k d =
             record {
-              answer = d .answer ∙ ap (paintsOf c) (d .painted .answer) ∙ answers (canvasIn (unitOf m) (length px) (length ws) (length cv)) ∙ ap canvasAnswer (sym reads);
+              answer = d .answer ∙ answers found-in ∙ ap canvasAnswer (sym reads);
               in-scratch = k ∙ ap (λ (x : Res Found). sets s 0 (scratchOf x)) (sym (found-is ∙ ap (mapRes (found index)) f));
-              in-pixels = d .painted .pixels ∙ ap (sets px 0) (maps (canvasIn (unitOf m) (length px) (length ws) (length cv))) ∙ ap (λ (x : Res Reading). sets px 0 (pixelsOf x)) (sym reads);
-              in-words = d .painted .words ∙ ap (sets ws 0) (bands (canvasIn (unitOf m) (length px) (length ws) (length cv))) ∙ ap (λ (x : Res Reading). sets ws 0 (bandsOf x)) (sym reads);
-              in-canvas = d .painted .canvas ∙ ap (sets cv 0) (canvases (canvasIn (unitOf m) (length px) (length ws) (length cv))) ∙ ap (λ (x : Res Reading). sets cv 0 (paintedOf x)) (sym reads);
+              in-pixels = d .pixels ∙ ap (sets px 0) (maps found-in) ∙ ap (λ (x : Res Reading). sets px 0 (pixelsOf x)) (sym reads);
+              in-words = d .words ∙ ap (sets ws 0) (bands found-in) ∙ ap (λ (x : Res Reading). sets ws 0 (bandsOf x)) (sym reads);
+              in-canvas = d .canvas ∙ ap (sets cv 0) (canvases found-in) ∙ ap (λ (x : Res Reading). sets cv 0 (paintedOf x)) (sym reads);
             }
           where
             answers : (x : Res ListedUnit)
-                → paintsOf c (spuAnswer x) ≡ canvasAnswer (mapRes (reading (wanted cue stream) (found index m)) x)
+                → paintsOf c x ≡ canvasAnswer (mapRes (reading (wanted cue stream) (found index m)) x)
             answers (ok l) = ap canvas-answer.Paints (shown-is m l)
             answers (refuse n) = refl
 
@@ -195,7 +219,7 @@ module _ (text file : List ℕ) (cue stream : ℕ) (s px ws cv : List ℕ) where
       -- its unit is found, and painted
       pub unit-some : (r : UnitAnswer) (s′ : List ℕ) → Extracted file (c .position) stream s r s′
           → ((n : ℕ) → r ≡ unit-answer.Refused n → ⊥)
-          → (a : CanvasAnswer) (px′ ws′ cv′ : List ℕ) → FoundPainted (unitPart file s′ (c .position) r) c px ws cv a px′ ws′ cv′
+          → (a : CanvasAnswer) (px′ ws′ cv′ : List ℕ) → UnitPainted (unitPart file s′ (c .position) r) c px ws cv a px′ ws′ cv′
           → CuePainted text file (wanted cue stream) before a (lent s′ px′ ws′ cv′)
       unit-some r s′ d o a px′ ws′ cv′ p = go (streamUnit stream file (c .position) (length s)) refl (d .answer) (d .scratch)
         where
@@ -210,7 +234,7 @@ module _ (text file : List ℕ) (cue stream : ℕ) (s px ws cv : List ℕ) where
               ap (λ (x : List ℕ). unitPart file x (c .position) r) k
               ∙ ap (unitPart file (sets s 0 (formStored m)) (c .position)) g
               ∙ unit-there (streamId stream) file (c .position) s m (i .1) (t .2) in
-              painted-all m f a s′ px′ ws′ cv′ k (subst (λ (x : List ℕ). FoundPainted x c px ws cv a px′ ws′ cv′) u p)
+              painted-all m f a s′ px′ ws′ cv′ k (subst (λ (x : List ℕ). UnitPainted x c px ws cv a px′ ws′ cv′) u p)
 
 -- with both claims
 pub kept : (text file : List ℕ) (q : Wanted) (b : Lent) (r : CanvasAnswer) (b′ : Lent) → CuePainted text file q b r b′

@@ -1,6 +1,6 @@
 -- The call keeps its claim on whole files: a reading is found within lent lengths exactly where it is one and they are long enough, and no
 -- files have two for one cue and stream. Assumes nothing.
-use Prim.Native.Nat.{ℕ, _*_, _≤_}
+use Prim.Native.Nat.{ℕ, _*_, _≤_, _<_}
 use mathlib.Core.Path.{_≡_, refl, sym, ap, _∙_, subst}
 use mathlib.Core.Logic.{_↔_}
 use mathlib.Core.Option.{some}
@@ -9,17 +9,20 @@ use lib.ListN.{length}
 use lib.Dec.{leb}
 use lib.Seq.{sets}
 use borrow.Author.Tests.{leb-true, le-leb}
-use Rattle.outcome.specs.Outcome.{Res, ok, refuse, need, bad-stream, no-cue, short-pixels, short-words, short-canvas}
+use Rattle.outcome.specs.Outcome.{Res, ok, refuse, need, bad-stream, no-cue, short-pixels, short-words, short-canvas, long-instant}
 use Rattle.grammar.proofs.Lengths.{reading-map, reading-canvas}
-use Rattle.outcome.proofs.Laws.{andThen-ok, check-ok, mapRes-ok, need-some}
-use Rattle.grammar.specs.Index.{ListedText}
+use Rattle.outcome.proofs.Laws.{ok-injective, andThen-ok, check-ok, mapRes-ok, need-some}
+use Rattle.grammar.specs.Index.{ListedText, IsText}
 use Rattle.grammar.specs.IndexCues.{Cue, cuesOf, cueAt}
 use Rattle.grammar.specs.Packets.{Form, IsForm, unitOf, top-stream}
 use Rattle.grammar.specs.Bands.{bandWords}
-use Rattle.grammar.specs.Record.{told, width, height}
+use Rattle.grammar.specs.Record.{told, given, width, height}
 use Rattle.grammar.specs.Picture.{ListedUnit, IsUnit}
 use Rattle.grammar.specs.Pixels.{clippedIn}
-use Rattle.grammar.specs.Reading.{Wanted, wantedId, Reading, IsReading, toldBy, shown, wordsOf}
+use Rattle.grammar.specs.Times.{TimeStays}
+use Rattle.grammar.specs.Reading.{Wanted, wantedId, Reading, IsReading, toldBy, readingStart, showOf, hideOf, shown, wordsOf}
+use Rattle.clock_model.specs.Answers.{timeOr0}
+use Rattle.clock_model.proofs.Clock.{stay-iff}
 use Rattle.control_model.specs.Chain.{controlAt}
 use Rattle.idx_model.specs.Text.{idxOf}
 use Rattle.idx_model.proofs.Grammar.{text-iff, text-unique}
@@ -30,7 +33,8 @@ use Rattle.ps_model.proofs.Claim.{form-stored, unit-sound, unit-complete}
 use Rattle.spu_model.specs.Unit.{rowsAt, listedUnit}
 use Rattle.spu_model.specs.Unit as unit-of
 use Rattle.spu_model.proofs.Grammar.{unit-iff, unit-unique}
-use Rattle.vobsub_model.specs.Call.{Lent, Found, found, foundFor, canvasIn, reading, readingIn}
+use Rattle.clock_model.specs.Clock.{toldStay}
+use Rattle.vobsub_model.specs.Call.{Lent, Found, found, foundFor, canvasIn, reading, listedIn, readingIn}
 use Rattle.vobsub_model.specs.Answers.{shownGiven, canvasAnswer, scratchOf, pixelsOf, bandsOf, paintedOf, CuePainted}
 use Rattle.vobsub_model.specs.Claim.{Gives, Room, Equal, Exactly}
 use Rattle.vobsub_model.specs.declared.Shown.{Shown}
@@ -94,10 +98,11 @@ found-sound text file q n f e =
     }
 
 module _ (text file : List ℕ) (q : Wanted) where
-  -- a reading that is found is one, with room
-  sound : (b : Lent) (x : Reading) → readingIn text file q b ≡ ok x → IsReading text file q x × Room x b
-  unfolding readingIn wordsOf
-  sound b x e =
+  -- what is listed is a reading where its times stay, and there is room for it
+  listed-sound : (b : Lent) (x : Reading) → listedIn text file q b ≡ ok x
+      → TimeStays (showOf x) × TimeStays (hideOf x) → IsReading text file q x × Room x b
+  unfolding listedIn wordsOf
+  listed-sound b x e stay =
       let a = andThen-ok (foundFor text file q (length (b .scratch))) _ e in
       let f = a .0 in
       let w = mapRes-ok (reading q f) (canvasIn (unitOf (f .form)) (length (b .pixels)) (length (b .words)) (length (b .canvas))) (a .2) in
@@ -105,6 +110,7 @@ module _ (text file : List ℕ) (q : Wanted) where
       let u = unit-sound (wantedId q) file (g .at .position) (length (b .scratch)) (f .form) (g .form-is) in
       let i = form-iff (wantedId q) file (g .at .position) (f .form) .0 (u .0) in
       let c = canvas-sound (unitOf (f .form)) (length (b .pixels)) (length (b .words)) (length (b .canvas)) (w .0) (w .1) in
+      let t = subst (λ (y : Reading). TimeStays (showOf y) × TimeStays (hideOf y)) (sym (w .2)) stay in
       subst (λ (y : Reading). IsReading text file q y × Room y b) (w .2) (
         record {
           text-is = text-iff text (f .text) .0 (g .text-listed);
@@ -115,19 +121,46 @@ module _ (text file : List ℕ) (q : Wanted) where
           before-end = i .0;
           form-is = i .1;
           unit-is = unit-iff (unitOf (f .form)) (w .0) .0 (c .0);
+          show-stays = t .0;
+          hide-stays = t .1;
         },
         record { for-unit = u .1; for-map = c .1; for-bands = c .2; for-canvas = c .3 },
       )
 
+  -- and what the grammar lists with room is listed, whatever its times are
+  pub listed-complete : (b : Lent) (x : Reading) (c : Cue) → IsText text (x .text) → x .cue ≡ q .cue → q .stream ≤ top-stream
+      → cueAt (cuesOf (x .text)) (x .cue) ≡ some c → c .position < length file → IsForm (wantedId q) file (c .position) (x .form)
+      → IsUnit (unitOf (x .form)) (x .unit) → Room x b → listedIn text file q b ≡ ok x
+  unfolding listedIn foundFor wordsOf
+  listed-complete b x c t e s l p f u r =
+      let k : cueAt (cuesOf (x .text)) (q .cue) ≡ some c = ap (cueAt (cuesOf (x .text))) (sym e) ∙ l in
+      let m = unit-complete (wantedId q) file (c .position) (length (b .scratch)) (x .form) (form-iff (wantedId q) file (c .position) (x .form) .1 (p, f)) (r .for-unit) in
+      let d = canvas-complete (unitOf (x .form)) (length (b .pixels)) (length (b .words)) (length (b .canvas)) (x .unit) (unit-iff (unitOf (x .form)) (x .unit) .1 u) (r .for-map) (r .for-bands) (r .for-canvas) in
+      rw (text-iff text (x .text) .1 t, le-leb (q .stream) top-stream s, k, m, d) (λ i. ok (record { text = x .text; cue = sym e i; form = x .form; unit = x .unit }))
+
+  -- a reading that is found is what is listed, and its times stay
+  in-time : (b : Lent) (x : Reading) → readingIn text file q b ≡ ok x
+      → (listedIn text file q b ≡ ok x) × (TimeStays (showOf x) × TimeStays (hideOf x))
+  unfolding readingIn
+  in-time b x e =
+      let a = andThen-ok (listedIn text file q b) _ e in
+      let c = check-ok (toldStay (readingStart (a .0)) (toldBy (a .0))) long-instant (ok (a .0)) (a .2) in
+      let p : a .0 ≡ x = ok-injective (c .1) in (
+        a .1 ∙ ap ok p,
+        subst (λ (y : Reading). TimeStays (showOf y) × TimeStays (hideOf y)) p
+            (stay-iff (readingStart (a .0)) (toldBy (a .0) .starts) (toldBy (a .0) .stops) .0 (c .0)),
+      )
+
+  -- a reading that is found is one, with room
+  sound : (b : Lent) (x : Reading) → readingIn text file q b ≡ ok x → IsReading text file q x × Room x b
+  sound b x e = let t = in-time b x e in listed-sound b x (t .0) (t .1)
+
   -- and a reading with room is found
   complete : (b : Lent) (x : Reading) → IsReading text file q x → Room x b → readingIn text file q b ≡ ok x
-  unfolding readingIn foundFor wordsOf
+  unfolding readingIn
   complete b x h r =
-      let t = text-iff text (x .text) .1 (h .text-is) in
-      let k : cueAt (cuesOf (x .text)) (q .cue) ≡ some (h .at) = ap (cueAt (cuesOf (x .text))) (sym (h .cue-is)) ∙ h .listed in
-      let m = unit-complete (wantedId q) file (h .at .position) (length (b .scratch)) (x .form) (form-iff (wantedId q) file (h .at .position) (x .form) .1 (h .before-end, h .form-is)) (r .for-unit) in
-      let c = canvas-complete (unitOf (x .form)) (length (b .pixels)) (length (b .words)) (length (b .canvas)) (x .unit) (unit-iff (unitOf (x .form)) (x .unit) .1 (h .unit-is)) (r .for-map) (r .for-bands) (r .for-canvas) in
-      rw (t, le-leb (q .stream) top-stream (h .stream-is), k, m, c) (λ i. ok (record { text = x .text; cue = sym (h .cue-is) i; form = x .form; unit = x .unit }))
+      let l = listed-complete b x (h .at) (h .text-is) (h .cue-is) (h .stream-is) (h .listed) (h .before-end) (h .form-is) (h .unit-is) r in
+      rw (l, stay-iff (readingStart x) (toldBy x .starts) (toldBy x .stops) .1 (h .show-stays, h .hide-stays))
 
   pub reading-iff : (b : Lent) (x : Reading) → (readingIn text file q b ≡ ok x) ↔ (IsReading text file q x × Room x b)
   reading-iff b x = (sound b x, λ h. complete b x (h .0) (h .1))
@@ -153,10 +186,10 @@ module _ (text file : List ℕ) (q : Wanted) where
     gives x e = subst Gives (sym (d .answer ∙ ap canvasAnswer e)) tt
 
     equal : (x : Reading) → readingIn text file q b ≡ ok x → Equal x b r b′
-    unfolding readingIn shown shownGiven
+    unfolding listedIn shown shownGiven
     equal x e =
         let h = sound b x e .0 in
-        let a = andThen-ok (foundFor text file q (length (b .scratch))) _ e in
+        let a = andThen-ok (foundFor text file q (length (b .scratch))) _ (in-time b x e .0) in
         let w = mapRes-ok (reading q (a .0)) (canvasIn (unitOf (a .0 .form)) (length (b .pixels)) (length (b .words)) (length (b .canvas))) (a .2) in
         let f : a .0 .form ≡ x .form = ap (λ (y : Reading). y .form) (w .2) in
         record {
@@ -165,8 +198,13 @@ module _ (text file : List ℕ) (q : Wanted) where
           start = refl;
           lasts = refl;
           duration = refl;
+          started = refl;
+          stopped = refl;
           start-delay = refl;
           stop-delay = refl;
+          show = refl;
+          hides = refl;
+          hide = refl;
           x1 = refl;
           y1 = refl;
           width = refl;
@@ -211,3 +249,19 @@ module _ (text file : List ℕ) (q : Wanted) where
         let z : canvas-answer.Paints s ≡ canvas-answer.Paints (e .says) = sym p ∙ e .paints in
         let y : s ≡ e .says = cc z in
         ap (λ (t : Shown). t .clipped) y ∙ e .clipped
+
+    -- whether a start and a stop command stand, and both times
+    pub shown-times : (s : Shown) → r ≡ canvas-answer.Paints s → (x : Reading) → IsReading text file q x
+        → (s .started ≡ given (toldBy x .starts)) × (s .stopped ≡ given (toldBy x .stops))
+        × (s .show .0 ≡ timeOr0 (showOf x)) × (s .hides ≡ given (hideOf x)) × (s .hide .0 ≡ timeOr0 (hideOf x))
+    unfolding shown
+    shown-times s p x h =
+        let e = claim .same x h (subst Gives (sym p) tt) in
+        let z : canvas-answer.Paints s ≡ canvas-answer.Paints (e .says) = sym p ∙ e .paints in
+        let y : s ≡ e .says = cc z in (
+          ap (λ (t : Shown). t .started) y ∙ e .started,
+          ap (λ (t : Shown). t .stopped) y ∙ e .stopped,
+          ap (λ (t : Shown). t .show .0) y ∙ e .show,
+          ap (λ (t : Shown). t .hides) y ∙ e .hides,
+          ap (λ (t : Shown). t .hide .0) y ∙ e .hide,
+        )

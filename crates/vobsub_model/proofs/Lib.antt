@@ -7,3 +7,4 @@ pub mod Refusals
 pub mod Cards
 pub mod Streams
 pub mod NoBytes
+pub mod Late

@@ -2,25 +2,32 @@
 use Prim.Native.Nat.{ℕ, _*_, _+_}
 use mathlib.Core.Path.{refl, _≡_}
 use mathlib.Core.Option.{none}
-use mathlib.Core.List.{List, [], _∷_}
+use mathlib.Core.List.{List, [], _∷_, _++_}
 use lib.Dec.{leb}
+use lib.IntN.{pos}
 use lib.ListN.{length}
-use Rattle.outcome.specs.Outcome.{InTable, Numbered, need, bad-stream, no-cue, short-pixels, short-words, short-canvas, refuse, bad-position, short-scratch, no-area}
+use Rattle.outcome.specs.Outcome.{InTable, Numbered, need, bad-stream, no-cue, short-pixels, short-words, short-canvas, no-top-field, field-ran-out, long-instant, ok, refuse, refusalOf, bad-position, short-scratch, cut-parameters, small-size, no-band-list, unknown-command, no-area}
 use Rattle.outcome.proofs.Numbers.{in-table, check-numbered, need-numbered, andThen-numbered, mapRes-numbered}
 use Rattle.grammar.specs.Bands.{bandWords, entryWords}
 use Rattle.grammar.specs.Record.{told, width, height, commandsOf, commandsIn, firstDelay, lastDelay, lastNumbers, stands, allBands}
 use Rattle.grammar.specs.IndexCues.{cuesOfLines, cuesOf, cueAt}
 use Rattle.grammar.specs.Packets.{unitOf, joined, top-stream}
-use Rattle.grammar.specs.Reading.{Wanted, wantedId, wanted}
+use Rattle.grammar.specs.Reading.{Wanted, wantedId, wanted, toldBy, readingStart}
 use Rattle.idx_model.specs.Text.{idxOf, linesIn, textIn, idxIn}
 use Rattle.idx_model.proofs.Refusals.{text-numbered}
 use Rattle.ps_model.specs.Unit.{unitAt}
 use Rattle.ps_model.proofs.Refusals as ps
 use Rattle.control_model.specs.Chain.{controlAt, plainAt, changeAt, orderAt, commandAt, commandsAt, blockAt, blocksAt, headFits, chainAt}
 use Rattle.control_model.proofs.Refusals.{control-numbered}
+use Rattle.clock_model.specs.Clock.{timesStay, toldStay}
+use Rattle.rle_model.specs.Codes.{codeFrom, codeAt, rowAt, fieldAt}
+use Rattle.rle_model.specs.Field.{rowsFrom}
+use Rattle.rle_model.specs.Fields.{weave, lowerAt, fieldsAt}
+use Rattle.grammar.specs.Rows.{paints, afterCodes, align}
+use Rattle.grammar.specs.Picture.{topEnd}
 use Rattle.spu_model.specs.Unit.{rowsAt, listedUnit}
 use Rattle.spu_model.proofs.Refusals.{rows-numbered}
-use Rattle.vobsub_model.specs.Call.{Lent, found, foundFor, canvasIn, reading, readingIn}
+use Rattle.vobsub_model.specs.Call.{Lent, found, foundFor, canvasIn, timedIn, reading, listedIn, readingIn}
 use Rattle.outcome.specs.Lists.{listFuel, listFrom}
 use Rattle.grammar.specs.Bytes.{word, nibble, nibbles}
 use Rattle.grammar.specs.IndexNumbers.{numeral}
@@ -50,11 +57,17 @@ canvas-numbered u n m k =
     (check-numbered InTable (leb (4 * (width (told bs) * height (told bs))) k) short-canvas _ (in-table short-canvas refl)
     (mapRes-numbered InTable (listedUnit bs) (rowsAt u (told bs)) (rows-numbered u (told bs))))))
 
+listed-numbered : (text file : List ℕ) (q : Wanted) (b : Lent) → Numbered (listedIn text file q b)
+unfolding listedIn
+listed-numbered text file q b =
+    andThen-numbered InTable (foundFor text file q (length (b .scratch))) _ (found-numbered text file q (length (b .scratch)))
+    (λ f. mapRes-numbered InTable (reading q f) (canvasIn (unitOf (f .form)) (length (b .pixels)) (length (b .words)) (length (b .canvas))) (canvas-numbered (unitOf (f .form)) (length (b .pixels)) (length (b .words)) (length (b .canvas))))
+
 pub reading-numbered : (text file : List ℕ) (q : Wanted) (b : Lent) → Numbered (readingIn text file q b)
 unfolding readingIn
 reading-numbered text file q b =
-    andThen-numbered InTable (foundFor text file q (length (b .scratch))) _ (found-numbered text file q (length (b .scratch)))
-    (λ f. mapRes-numbered InTable (reading q f) (canvasIn (unitOf (f .form)) (length (b .pixels)) (length (b .words)) (length (b .canvas))) (canvas-numbered (unitOf (f .form)) (length (b .pixels)) (length (b .words)) (length (b .canvas))))
+    andThen-numbered InTable (listedIn text file q b) _ (listed-numbered text file q b)
+    (λ x. check-numbered InTable (toldStay (readingStart x) (toldBy x)) long-instant (ok x) (in-table long-instant refl) tt)
 
 -- each order of FORMAT 9 up to the unit: a text, a file, a cue, a stream and a length of scratch on which both are
 -- true, and the number that is given
@@ -100,3 +113,34 @@ pub canvas-orders :
     × (canvasIn (unit (0x06 ∷ 0x00 ∷ 0x05 ∷ 0x00 ∷ 0x00 ∷ 0xFF ∷ [])) 1 0 3 ≡ refuse short-canvas)
 unfolding canvasIn rowsAt listFrom listFuel word nibbles nibble entryWords bandWords bandsAt bandsOf entriesOf header entryOf held plainAt changeAt orderAt commandAt commandsAt blockAt blocksAt headFits chainAt controlAt told commandsOf commandsIn firstDelay lastDelay lastNumbers stands allBands
 canvas-orders = (refl, refl, refl, refl, refl, refl)
+
+-- a unit that starts, a tick after its cue's start, with one byte of field and these bytes before the start
+abbrev late : List ℕ → List ℕ
+late cs = 0x00 ∷ (11 + length cs) ∷ 0x00 ∷ 0x05 ∷ 0x70 ∷ 0x00 ∷ 0x01 ∷ 0x00 ∷ 0x05 ∷ (cs ++ 0x01 ∷ 0xFF ∷ [])
+
+-- and before 33: a cue at the last microsecond, so that its show time leaves, a unit and lengths; what is refused
+-- before the unit is in `Late.earlier`
+abbrev last : List ℕ → ℕ → ℕ → ℕ → ℕ
+last cs n m k = refusalOf (timedIn (pos 9223372036854775807) (late cs) n m k)
+
+pub late-orders :
+    -- 33 alone
+    (last [] 1 0 4 ≡ long-instant)
+    -- 17, 18 and 19, after a start
+    × (last (0x01 ∷ 0x05 ∷ []) 1 0 4 ≡ cut-parameters)
+    × (last (0x01 ∷ 0x07 ∷ 0x00 ∷ 0x01 ∷ []) 1 0 4 ≡ small-size)
+    × (last (0x01 ∷ 0x07 ∷ 0x00 ∷ 0x03 ∷ 0x00 ∷ []) 1 0 4 ≡ no-band-list)
+    -- 20
+    × (last (0x08 ∷ []) 1 0 4 ≡ unknown-command)
+    -- 21
+    × (last (0x05 ∷ 0x00 ∷ 0x10 ∷ 0x00 ∷ 0x00 ∷ 0x00 ∷ 0x00 ∷ []) 1 0 4 ≡ no-area)
+    -- 22, 23 and 24
+    × (last [] 0 0 4 ≡ short-pixels)
+    × (last (0x07 ∷ 0x00 ∷ 0x06 ∷ 0x00 ∷ 0x03 ∷ 0x00 ∷ 0x04 ∷ []) 1 2 4 ≡ short-words)
+    × (last [] 1 0 3 ≡ short-canvas)
+    -- 25
+    × (last (0x06 ∷ 0xFF ∷ 0xFF ∷ 0x00 ∷ 0x00 ∷ []) 1 0 4 ≡ no-top-field)
+    -- 26
+    × (last (0x06 ∷ 0x00 ∷ 0x05 ∷ 0x00 ∷ 0x00 ∷ []) 1 0 4 ≡ field-ran-out)
+unfolding timedIn timesStay canvasIn rowsAt fieldsAt lowerAt fieldAt rowAt codeAt codeFrom rowsFrom weave paints afterCodes align topEnd listFrom listFuel word nibbles nibble entryWords bandWords bandsAt bandsOf entriesOf header entryOf held plainAt changeAt orderAt commandAt commandsAt blockAt blocksAt headFits chainAt controlAt told commandsOf commandsIn firstDelay lastDelay lastNumbers stands allBands
+late-orders = (refl, refl, refl, refl, refl, refl, refl, refl, refl, refl, refl)

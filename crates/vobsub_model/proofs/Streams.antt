@@ -12,12 +12,13 @@ use Rattle.grammar.specs.Index.{ListedText, IsText}
 use Rattle.grammar.specs.IndexCues.{Cue, cuesOf, cueAt}
 use Rattle.grammar.specs.Packets.{Packet, Form, unitOf, top-stream}
 use Rattle.grammar.specs.Streams.{Walk, Alike}
-use Rattle.grammar.specs.Reading.{Wanted, wantedId, Reading}
+use Rattle.grammar.specs.Reading.{Wanted, wantedId, Reading, toldBy, readingStart}
 use Rattle.grammar.proofs.Streams.{readings-same}
 use Rattle.idx_model.proofs.Grammar.{text-iff}
 use Rattle.ps_model.specs.Unit.{unitAt, withScratch}
 use Rattle.ps_model.proofs.Streams.{form-same}
-use Rattle.vobsub_model.specs.Call.{Lent, Found, found, foundFor, canvasIn, reading, readingIn}
+use Rattle.clock_model.specs.Clock.{toldStay, inTime}
+use Rattle.vobsub_model.specs.Call.{Lent, Found, found, foundFor, canvasIn, reading, listedIn, readingIn}
 use Rattle.vobsub_model.specs.Answers.{canvasAnswer, scratchOf, pixelsOf, bandsOf, paintedOf, CuePainted}
 use Rattle.vobsub_model.specs.Claim.{Undisturbed}
 use Rattle.vobsub_model.specs.declared.CanvasAnswer.{CanvasAnswer}
@@ -33,11 +34,12 @@ module _ (text file other : List ℕ) (q : Wanted) (index : ListedText) (c : Cue
       (form-same (q .stream) file other (c .position) ps walk alike))
 
   pub reading-same : (b : Lent) → readingIn text file q b ≡ readingIn text other q b
-  unfolding readingIn
+  unfolding readingIn listedIn
   reading-same b =
       ap
       (λ (x : Res Found).
-      andThen x (λ f. mapRes (reading q f) (canvasIn (unitOf (f .form)) (length (b .pixels)) (length (b .words)) (length (b .canvas)))))
+      inTime (λ y. toldStay (readingStart y) (toldBy y))
+      (andThen x (λ f. mapRes (reading q f) (canvasIn (unitOf (f .form)) (length (b .pixels)) (length (b .words)) (length (b .canvas))))))
       (found-same (length (b .scratch)))
 
 pub undisturbed : (text file : List ℕ) (q : Wanted) (b : Lent) (r : CanvasAnswer) (b′ : Lent)

@@ -4,21 +4,27 @@ use mathlib.Core.Path.{_≡_}
 use mathlib.Core.Bool.{cond}
 use mathlib.Core.List.{List, []}
 use lib.Dec.{eqb, leb}
+use lib.IntN.{ℤ, pos}
 use lib.ListN.{length}
 use lib.Seq.{sets}
-use Rattle.outcome.specs.Outcome.{Res, ok, refuse, bad-stream, no-cue}
+use Rattle.outcome.specs.Outcome.{Res, ok, refuse, bad-stream, no-cue, long-instant}
+use Rattle.grammar.specs.Rows.{Code}
 use Rattle.grammar.specs.Packets.{top-stream}
+use Rattle.grammar.specs.Record.{Told, told, given}
+use Rattle.grammar.specs.Times.{showTime, hideTime}
 use Rattle.grammar.specs.Picture.{ListedUnit}
 use Rattle.grammar.specs.Reading.{Wanted, Reading, shown, mapOf, wordsOf, unitCanvas, canvasOf}
 use Rattle.grammar.specs.Reading as grammar-reading
+use Rattle.clock_model.specs.Answers.{ticks, micros, timeOr0, timesOf}
+use Rattle.clock_model.specs.declared.Times.{Times}
+use Rattle.control_model.specs.Answers.{spuOf}
 use Rattle.control_model.specs.declared.Spu.{Spu}
-use Rattle.idx_model.specs.Answers.{given, orZero}
+use Rattle.idx_model.specs.Answers.{orZero}
 use Rattle.idx_model.specs.declared.CueAnswer.{CueAnswer}
 use Rattle.ps_model.specs.Answers.{formStored}
-use Rattle.spu_model.specs.Answers.{spuAnswer, unitMap, unitBands}
-use Rattle.spu_model.specs.declared.SpuAnswer.{SpuAnswer}
-use Rattle.spu_model.specs.declared.SpuAnswer.the-variants as spu-answer
-use Rattle.vobsub_model.specs.Call.{Lent, Found, foundFor, canvasIn, readingIn}
+use Rattle.spu_model.specs.Unit.{countsOf}
+use Rattle.spu_model.specs.Answers.{unitMap, unitBands}
+use Rattle.vobsub_model.specs.Call.{Lent, Found, foundFor, timedIn, readingIn}
 use Rattle.vobsub_model.specs.declared.Shown.{Shown}
 use Rattle.vobsub_model.specs.declared.CanvasAnswer.{CanvasAnswer}
 use Rattle.vobsub_model.specs.declared.CanvasAnswer.the-variants as canvas-answer
@@ -30,22 +36,24 @@ abbrev pub canvasStored : List ℕ → Res ListedUnit → List ℕ
 canvasStored palette (ok l) = unitCanvas palette l
 canvasStored palette (refuse n) = []
 
--- what painting a unit leaves: on a refusal nothing is stored
-pub record UnitPainted (u palette px ws cv : List ℕ) (r : SpuAnswer) (px′ ws′ cv′ : List ℕ) : Type 0 where
-  pub answer : r ≡ spuAnswer (canvasIn u (length px) (length ws) (length cv))
-  pub pixels : px′ ≡ sets px 0 (unitMap (canvasIn u (length px) (length ws) (length cv)))
-  pub words : ws′ ≡ sets ws 0 (unitBands (canvasIn u (length px) (length ws) (length cv)))
-  pub canvas : cv′ ≡ sets cv 0 (canvasStored palette (canvasIn u (length px) (length ws) (length cv)))
+-- the times of a cue with this start whose unit's commands told t
+abbrev pub timesTold : ℤ → Told → Times
+timesTold start t = timesOf (showTime start (t .starts)) (hideTime start (t .starts) (t .stops))
 
--- a cue's times with a unit's record
-abbrev pub shownOf : CueAnswer → Spu → Shown
-shownOf c s =
+-- a cue's start and duration, with a unit's record and its times
+abbrev pub shownOf : CueAnswer → Spu → Times → Shown
+shownOf c s t =
     record {
       start = c .start;
       «has_duration» = c .«has_duration»;
       duration = c .duration;
+      started = s .started;
+      stopped = s .stopped;
       «start_delay» = s .«start_delay_raw»;
       «stop_delay» = s .«stop_delay_raw»;
+      show = t .show;
+      hides = t .hides;
+      hide = t .hide;
       x1 = s .x1;
       y1 = s .y1;
       width = s .x2 + 1 - s .x1;
@@ -54,15 +62,24 @@ shownOf c s =
       clipped = s .clipped;
     }
 
-abbrev pub paintsOf : CueAnswer → SpuAnswer → CanvasAnswer
-paintsOf c (spu-answer.Shows s) = canvas-answer.Paints (shownOf c s)
-paintsOf c (spu-answer.Refused n) = canvas-answer.Refused n
+-- what is shown of a unit as the cue c
+abbrev pub paintsOf : CueAnswer → Res ListedUnit → CanvasAnswer
+paintsOf c (ok l) =
+    canvas-answer.Paints
+    (shownOf c (spuOf (told (l .blocks)) (countsOf l)) (timesTold (c .start .0) (told (l .blocks))))
+paintsOf c (refuse n) = canvas-answer.Refused n
 
--- what painting the unit u of the cue c leaves
-pub record FoundPainted (u : List ℕ) (c : CueAnswer) (px ws cv : List ℕ) (r : CanvasAnswer) (px′ ws′ cv′ : List ℕ) : Type 0 where
-  pub says : SpuAnswer
-  pub answer : r ≡ paintsOf c says
-  pub painted : UnitPainted u (c .palette) px ws cv says px′ ws′ cv′
+-- the refusal of a unit whose times leave: that of its rows, 25 or 26, comes first
+abbrev pub lateRefusal : Res (List (List Code)) → ℕ
+lateRefusal (ok rs) = long-instant
+lateRefusal (refuse n) = n
+
+-- what painting the unit u of the cue c leaves: on a refusal nothing is stored
+pub record UnitPainted (u : List ℕ) (c : CueAnswer) (px ws cv : List ℕ) (r : CanvasAnswer) (px′ ws′ cv′ : List ℕ) : Type 0 where
+  pub answer : r ≡ paintsOf c (timedIn (c .start .0) u (length px) (length ws) (length cv))
+  pub pixels : px′ ≡ sets px 0 (unitMap (timedIn (c .start .0) u (length px) (length ws) (length cv)))
+  pub words : ws′ ≡ sets ws 0 (unitBands (timedIn (c .start .0) u (length px) (length ws) (length cv)))
+  pub canvas : cv′ ≡ sets cv 0 (canvasStored (c .palette) (timedIn (c .start .0) u (length px) (length ws) (length cv)))
 
 -- ---- The whole call
 
@@ -75,11 +92,16 @@ firstRefusal n s = cond (eqb n no-cue) (cond (leb s top-stream) n bad-stream) n
 unfoldable pub shownGiven : grammar-reading.Shown → Shown
 shownGiven g =
     record {
-      start = g .start;
+      start = micros (g .start);
       «has_duration» = given (g .duration);
-      duration = orZero (g .duration);
-      «start_delay» = g .start-delay;
-      «stop_delay» = g .stop-delay;
+      duration = micros (pos (orZero (g .duration)));
+      started = g .started;
+      stopped = g .stopped;
+      «start_delay» = ticks (g .start-delay);
+      «stop_delay» = ticks (g .stop-delay);
+      show = micros (timeOr0 (g .show));
+      hides = given (g .hide);
+      hide = micros (timeOr0 (g .hide));
       x1 = g .x1;
       y1 = g .y1;
       width = g .width;

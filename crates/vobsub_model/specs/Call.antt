@@ -3,6 +3,7 @@
 use Prim.Native.Nat.{ℕ, _*_}
 use mathlib.Core.List.{List}
 use lib.Dec.{leb}
+use lib.IntN.{ℤ}
 use lib.ListN.{length}
 use Rattle.outcome.specs.Outcome.{Res, check, need, andThen, mapRes, bad-stream, no-cue, short-pixels, short-words, short-canvas}
 use Rattle.grammar.specs.Index.{ListedText}
@@ -11,7 +12,8 @@ use Rattle.grammar.specs.Packets.{Form, unitOf, top-stream}
 use Rattle.grammar.specs.Bands.{bandWords}
 use Rattle.grammar.specs.Record.{told, width, height}
 use Rattle.grammar.specs.Picture.{ListedUnit}
-use Rattle.grammar.specs.Reading.{Wanted, wantedId, Reading}
+use Rattle.grammar.specs.Reading.{Wanted, wantedId, Reading, toldBy, readingStart}
+use Rattle.clock_model.specs.Clock.{toldStay, inTime, unitInTime}
 use Rattle.idx_model.specs.Text.{idxOf}
 use Rattle.ps_model.specs.Unit.{unitAt}
 use Rattle.control_model.specs.Chain.{controlAt}
@@ -52,10 +54,18 @@ canvasIn u n m k =
     (check (leb (length (bandWords (told bs .bands))) m) short-words
     (check (leb (4 * (width (told bs) * height (told bs))) k) short-canvas (mapRes (listedUnit bs) (rowsAt u (told bs))))))
 
+-- and then 33, for a cue with this start
+unfoldable pub timedIn : ℤ → List ℕ → ℕ → ℕ → ℕ → Res ListedUnit
+timedIn start u n m k = unitInTime start (canvasIn u n m k)
+
 abbrev pub reading : Wanted → Found → ListedUnit → Reading
 reading q f l = record { text = f .text; cue = q .cue; form = f .form; unit = l }
 
-unfoldable pub readingIn : List ℕ → List ℕ → Wanted → Lent → Res Reading
-readingIn text file q b =
+-- all that is listed, whatever its times
+unfoldable pub listedIn : List ℕ → List ℕ → Wanted → Lent → Res Reading
+listedIn text file q b =
     andThen (foundFor text file q (length (b .scratch)))
     (λ f. mapRes (reading q f) (canvasIn (unitOf (f .form)) (length (b .pixels)) (length (b .words)) (length (b .canvas))))
+
+unfoldable pub readingIn : List ℕ → List ℕ → Wanted → Lent → Res Reading
+readingIn text file q b = inTime (λ x. toldStay (readingStart x) (toldBy x)) (listedIn text file q b)

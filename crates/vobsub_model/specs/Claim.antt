@@ -1,9 +1,10 @@
--- What the call claims of whole files, in the grammar's words (FORMAT 6.4 to 6.6). Assumes nothing: these are definitions.
+-- What the call claims of whole files, in the grammar's words (FORMAT 6.4 to 6.7). Assumes nothing: these are definitions.
 use mathlib.Core.Path.{_≡_}
 use mathlib.Core.Logic.{_↔_}
 use mathlib.Core.Option.{some}
 use mathlib.Core.List.{List, []}
 use Prim.Native.Nat.{ℕ, _*_}
+use lib.IntN.{pos}
 use lib.ListN.{length, take}
 use lib.Seq.{sets}
 use Rattle.grammar.specs.Index.{ListedText, IsText}
@@ -11,7 +12,9 @@ use Rattle.grammar.specs.IndexCues.{Cue, cuesOf, cueAt}
 use Rattle.grammar.specs.Packets.{Packet, unitOf, scratchFor}
 use Rattle.grammar.specs.Streams.{Walk, Alike}
 use Rattle.grammar.specs.Reading.{Wanted, wantedId, Reading, IsReading, shown, mapOf, wordsOf, canvasOf, LongEnough}
-use Rattle.idx_model.specs.Answers.{given, orZero}
+use Rattle.grammar.specs.Record.{given}
+use Rattle.clock_model.specs.Answers.{timeOr0}
+use Rattle.idx_model.specs.Answers.{orZero}
 use Rattle.vobsub_model.specs.Call.{Lent}
 use Rattle.vobsub_model.specs.Answers.{CuePainted}
 use Rattle.vobsub_model.specs.declared.Shown.{Shown}
@@ -31,11 +34,16 @@ Room x b = LongEnough x (length (b .scratch)) (length (b .pixels)) (length (b .w
 pub record Equal (x : Reading) (b : Lent) (r : CanvasAnswer) (b′ : Lent) : Type 0 where
   pub says : Shown
   pub paints : r ≡ canvas-answer.Paints says
-  pub start : says .start ≡ shown x .start
+  pub start : says .start .0 ≡ shown x .start
   pub lasts : says .«has_duration» ≡ given (shown x .duration)
-  pub duration : says .duration ≡ orZero (shown x .duration)
-  pub start-delay : says .«start_delay» ≡ shown x .start-delay
-  pub stop-delay : says .«stop_delay» ≡ shown x .stop-delay
+  pub duration : says .duration .0 ≡ pos (orZero (shown x .duration))
+  pub started : says .started ≡ shown x .started
+  pub stopped : says .stopped ≡ shown x .stopped
+  pub start-delay : says .«start_delay» .0 ≡ shown x .start-delay
+  pub stop-delay : says .«stop_delay» .0 ≡ shown x .stop-delay
+  pub show : says .show .0 ≡ timeOr0 (shown x .show)
+  pub hides : says .hides ≡ given (shown x .hide)
+  pub hide : says .hide .0 ≡ timeOr0 (shown x .hide)
   pub x1 : says .x1 ≡ shown x .x1
   pub y1 : says .y1 ≡ shown x .y1
   pub width : says .width ≡ shown x .width

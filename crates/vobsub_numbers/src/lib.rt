@@ -1,11 +1,13 @@
 // Numbers of records and answers put into the order of include/vobsub.h.
+use clock::count_of;
 use control_model::Spu;
 use idx_model::CueAnswer;
 use idx_model::IdxAnswer;
 use vobsub_model::Shown;
 ghost use mathlib.Core.Bool.{cond};
 ghost use mathlib.Core.Path.{_≡_};
-ghost use Rattle.vobsub_numbers.specs.Numbers.{spuNumbers, idxNumbers, cueNumbers, shownNumbers};
+ghost use Rattle.clock_model.specs.Answers.{ticks};
+ghost use Rattle.vobsub_numbers.specs.Numbers.{spuNumbers, idxNumbers, cueNumbers, shownNumbers, shownTimes};
 
 // 1 for true.
 fn flag(b: bool) -> usize
@@ -34,7 +36,7 @@ fn in_order(
     codes: usize,
     clipped: usize,
 ) -> [usize; 17]
-    ensures { λ r. ⌜ r ≡ spuNumbers (record { x1 = x1; y1 = y1; x2 = x2; y2 = y2; «palette_sel» = «palette_sel»; alpha = alpha; started = started; «start_delay_raw» = «start_delay_raw»; stopped = stopped; «stop_delay_raw» = «stop_delay_raw»; «forced_display» = «forced_display»; «top_rle_off» = «top_rle_off»; «bot_rle_off» = «bot_rle_off»; «saw_chg_colcon» = «saw_chg_colcon»; «band_words» = «band_words»; codes = codes; clipped = clipped }) ⌝ }
+    ensures { λ r. ⌜ r ≡ spuNumbers (record { x1 = x1; y1 = y1; x2 = x2; y2 = y2; «palette_sel» = «palette_sel»; alpha = alpha; started = started; «start_delay_raw» = ticks «start_delay_raw»; stopped = stopped; «stop_delay_raw» = ticks «stop_delay_raw»; «forced_display» = «forced_display»; «top_rle_off» = «top_rle_off»; «bot_rle_off» = «bot_rle_off»; «saw_chg_colcon» = «saw_chg_colcon»; «band_words» = «band_words»; codes = codes; clipped = clipped }) ⌝ }
 {
     let starts = flag(started);
     let stops = flag(stopped);
@@ -65,6 +67,8 @@ fn in_order(
 pub fn numbers_of(s: Spu) -> [usize; 17]
     ensures { λ r. ⌜ r ≡ spuNumbers s ⌝ }
 {
+    let start_delay = s.start_delay_raw;
+    let stop_delay = s.stop_delay_raw;
     in_order(
         s.x1,
         s.y1,
@@ -73,9 +77,9 @@ pub fn numbers_of(s: Spu) -> [usize; 17]
         s.palette_sel,
         s.alpha,
         s.started,
-        s.start_delay_raw,
+        start_delay.0,
         s.stopped,
-        s.stop_delay_raw,
+        stop_delay.0,
         s.forced_display,
         s.top_rle_off,
         s.bot_rle_off,
@@ -101,26 +105,48 @@ pub fn cue_numbers_of(a: CueAnswer) -> [u64; 4]
 {
     let lasts = flag(a.has_duration);
     let coloured = flag(a.has_palette);
-    [a.position, lasts as u64, a.duration, coloured as u64]
+    let duration = count_of(a.duration);
+    [a.position, lasts as u64, duration, coloured as u64]
 }
 
 // Whether another cue follows and the time up to it, the delays, the place, the size, the number of codes and that of
-// clipped ones, in the order of include/vobsub.h.
+// clipped ones, whether a start and a stop command stand and whether there is a hide time, in the order of
+// include/vobsub.h.
 // Ruled out: the place's column and line in each other's place.
-pub fn shown_numbers_of(s: Shown) -> [u64; 10]
+pub fn shown_numbers_of(s: Shown) -> [u64; 13]
     ensures { λ r. ⌜ r ≡ shownNumbers s ⌝ }
 {
     let lasts = flag(s.has_duration);
+    let duration = count_of(s.duration);
+    let start_delay = s.start_delay;
+    let stop_delay = s.stop_delay;
+    let starts = flag(s.started);
+    let stops = flag(s.stopped);
+    let hides = flag(s.hides);
     [
         lasts as u64,
-        s.duration,
-        s.start_delay as u64,
-        s.stop_delay as u64,
+        duration,
+        start_delay.0 as u64,
+        stop_delay.0 as u64,
         s.x1 as u64,
         s.y1 as u64,
         s.width as u64,
         s.height as u64,
         s.codes as u64,
         s.clipped as u64,
+        starts as u64,
+        stops as u64,
+        hides as u64,
     ]
+}
+
+// Start, show time and hide time, in the order of include/vobsub.h.
+// Ruled out: the show time and the hide time in each other's place.
+pub fn shown_times_of(s: Shown) -> [i64; 3]
+    ensures { λ r. ⌜ r ≡ shownTimes s ⌝ }
+{
+    let start = s.start;
+    let show = s.show;
+    let hide = s.hide;
+    [start.0, show.0, hide.0]
 }

@@ -1,7 +1,9 @@
 // What the original says of a title, as the lines of the list program, into FILE: `lines DIR FILE`. A refused index has no number, as the
 // original gives none. The list program names stream 0: where others are on a cue's walk, the original is asked about a copy with their ids
-// set to 00. About an index of no bytes the original is not asked: the cue of empty.rs is listed, and the rule is printed.
-use oracle::side::{Spot, number_of};
+// set to 00. About an index of no bytes the original is not asked: the cue of empty.rs is listed. A cue that the original shows and that has a
+// time outside signed 64 bits, by times.rs, is listed as refused with 33. Printed are 1 for such an index, or 0, the number of such cues, and
+// the rule that applied.
+use oracle::side::{Delays, Spot, number_of};
 use oracle::walk::walk;
 use std::fs;
 use std::io::Write;
@@ -16,8 +18,10 @@ fn main() -> std::io::Result<()> {
     let mut out = fs::File::create(path)?;
     let rule = side.empty.rule(text.as_bytes());
     let Ok(index) = rule.map_or_else(|| (side.index)(&text), |_| Ok((side.empty.index)())) else {
+        println!("0 0");
         return writeln!(out, "index refused");
     };
+    let mut long = Vec::new();
     writeln!(out, "cues {}", index.cues.len())?;
     for (n, &(start, position)) in index.cues.iter().enumerate() {
         let duration = (side.duration)(start, index.cues.get(n + 1).map(|c| c.0)).map_or("-".to_string(), |d| d.to_string());
@@ -28,16 +32,18 @@ fn main() -> std::io::Result<()> {
             Spot::Unit { unit, .. } => Ok(unit),
         };
         let shown = unit.and_then(|unit| {
-            let codes = oracle::counted(|| (side.counting.unit)(&unit)).codes;
-            (side.unit)(&unit).map(|d| (d, codes)).map_err(|words| number_of(&words))
+            let counts = oracle::counted(|| (side.counting.unit)(&unit));
+            let decoded = (side.unit)(&unit).map_err(|words| number_of(&words))?;
+            let leaves = side.times.rule(Delays::of(start, &decoded, counts));
+            long.extend(leaves);
+            leaves.map_or(Ok((decoded, counts.codes)), |_| Err(33))
         });
         match shown {
             Ok((d, codes)) => writeln!(out, "{n} {start} {duration} {} {} {} {} {} {} {codes}", d.numbers[0], d.numbers[1], d.width, d.height, d.numbers[7], d.numbers[9])?,
             Err(number) => writeln!(out, "{n} refused {number}")?,
         }
     }
-    if let Some(rule) = rule {
-        println!("{rule}");
-    }
+    // the cue of an index of no bytes has start 0, so that no title has both
+    println!("{} {} {}", rule.is_some() as u8, long.len(), rule.or(long.pop()).unwrap_or(""));
     Ok(())
 }

@@ -12,6 +12,7 @@ use oracle::classes::{self, canvas};
 use oracle::port;
 use oracle::random::Random;
 use oracle::side::Side;
+use oracle::times::{BOTH, STOOD};
 use std::collections::{BTreeMap, BTreeSet};
 
 const SEED: u64 = 7;
@@ -124,11 +125,13 @@ fn answer(kind: u8, bytes: &[u8], n: [usize; 4]) -> (u8, u64) {
         }
         9 => {
             let (mut scratch, mut map, mut words, mut painted) = (vec![BYTE; n[0]], vec![BYTE; n[1]], vec![WORD; n[2]], vec![BYTE; n[3]]);
-            let (mut start, mut numbers) = (START, [NUMBER as u64; port::SHOWN_NUMBERS]);
+            let (mut times, mut numbers) = ([START; port::TIMES], [NUMBER as u64; port::SHOWN_NUMBERS]);
             let (text, file, cue, stream) = canvas::parts(bytes);
             let lent = port::Lent { scratch: &mut scratch, pixels: &mut map, words: &mut words, canvas: &mut painted };
-            let refusal = port::decode_cue(text, file, cue, stream, lent, &mut start, &mut numbers);
-            sum.signed(start);
+            let refusal = port::decode_cue(text, file, cue, stream, lent, &mut times, &mut numbers);
+            for v in times {
+                sum.signed(v);
+            }
             sum.all(&numbers);
             sum.all(&scratch);
             sum.all(&map);
@@ -152,9 +155,9 @@ fn answer(kind: u8, bytes: &[u8], n: [usize; 4]) -> (u8, u64) {
 
 fn rows(class: &Class, world: &World, side: &Side) -> (usize, Vec<u8>) {
     let mut out = Vec::new();
-    let mut met: BTreeMap<u8, usize> = BTreeMap::new();
+    let mut met: BTreeMap<(u8, Option<usize>), usize> = BTreeMap::new();
     let mut taken = BTreeSet::new();
-    let (mut count, mut copied, mut clipped, mut empty) = (0, 0, 0, 0);
+    let (mut count, mut copied, mut clipped, mut empty, mut hidden) = (0, 0, 0, 0, 0);
     for i in 0..60_000 {
         let q = (class.generate)(world, &mut Random::of(SEED, class.name, i));
         let n = numbers(class, side, &q);
@@ -183,9 +186,14 @@ fn rows(class: &Class, world: &World, side: &Side) -> (usize, Vec<u8>) {
         if kind(class) > 6 && !taken.insert((q.bytes.clone(), n)) {
             continue;
         }
-        let each = if title { EACH_TITLE } else { EACH };
-        let quota = if refusal == 0 { 4 * each } else { each };
-        let seen = met.entry(refusal).or_default();
+        // of accepted titles as many with neither start nor stop, with either and with both, and beside them with a text of no bytes
+        let stood = STOOD.iter().position(|what| title && o.met.contains(what));
+        let quota = match (title, refusal) {
+            (true, _) => EACH_TITLE,
+            (false, 0) => 4 * EACH,
+            (false, _) => EACH,
+        };
+        let seen = met.entry((refusal, stood)).or_default();
         if *seen >= quota {
             continue;
         }
@@ -194,6 +202,7 @@ fn rows(class: &Class, world: &World, side: &Side) -> (usize, Vec<u8>) {
         copied += o.copied.is_some() as usize;
         clipped += o.met.contains(&CLIPPED) as usize;
         empty += o.empty.is_some() as usize;
+        hidden += o.met.contains(&BOTH) as usize;
         out.extend([kind(class), refusal]);
         for word in [q.bytes.len(), n[0], n[1], n[2], n[3]] {
             out.extend((word as u16).to_be_bytes());
@@ -201,12 +210,19 @@ fn rows(class: &Class, world: &World, side: &Side) -> (usize, Vec<u8>) {
         out.extend((sum as u32).to_be_bytes());
         out.extend(&q.bytes);
     }
-    let met: Vec<String> = met.iter().map(|(r, c)| format!("{r}: {c}")).collect();
+    let mut answers: BTreeMap<u8, usize> = BTreeMap::new();
+    for ((refusal, _), count) in met {
+        *answers.entry(refusal).or_default() += count;
+    }
+    let met: Vec<String> = answers.iter().map(|(r, c)| format!("{r}: {c}")).collect();
     println!(
         "{}: {count} rows ({}), {copied} with other streams on the walk, {clipped} with a clipped code, {empty} with a text of no bytes",
         class.name,
         met.join(", ")
     );
+    if hidden > 0 {
+        println!("    {hidden} accepted with a start and a stop");
+    }
     (count, out)
 }
 

@@ -185,11 +185,11 @@ fn cues(title: &Title, lent: &mut Lent) {
     let mut ask = |text: &[u8], cue: usize, need: usize| {
         lent.map[..need / 4].fill(0);
         lent.canvas[..need].fill(0);
-        let (mut start, mut numbers) = (0, [0; port::SHOWN_NUMBERS]);
+        let (mut times, mut numbers) = ([0; port::TIMES], [0; port::SHOWN_NUMBERS]);
         let buffers = port::Lent { scratch: &mut lent.scratch, pixels: &mut lent.map, words: &mut lent.words, canvas: &mut lent.canvas };
-        let refusal = port::decode_cue(black_box(text), black_box(file), cue, stream, buffers, &mut start, &mut numbers);
+        let refusal = port::decode_cue(black_box(text), black_box(file), cue, stream, buffers, &mut times, &mut numbers);
         assert_eq!(refusal, 0);
-        black_box((start, numbers));
+        black_box((times, numbers));
     };
     beside(
         &format!("{}, one call for each of {count} cues", title.name),

@@ -4,12 +4,13 @@
 use crate::class::*;
 use crate::classes::idx::{ANY, Expected, SHORT_TEXTS, TIMES, expected, line, number, short_text};
 use crate::classes::packets::{above, another, in_packets};
-use crate::classes::unit::{area, by_mode, change, made, put, set_word};
+use crate::classes::unit::{area, by_mode, change, delay, made, put, set_word};
 use crate::classes::{bands, field};
 use crate::empty::{self, GIVEN, NEAR, REFUSED};
 use crate::port;
 use crate::random::Random;
-use crate::side::{Painted, Seen, Side, number_of};
+use crate::side::{Delays, Painted, Seen, Side, number_of};
+use crate::times::{self, last_start, micros};
 use crate::titles::titles;
 use crate::walk::{ABOVE, ABSENT, PARTED, TOP_STREAM, stream_at, walk};
 use crate::{CLIPPED, Counts, EXACT, LONG_FILL};
@@ -20,8 +21,30 @@ pub const CLASS: Class = Class {
     fixed,
     generate,
     compare,
-    refusals: &[1, 2, 3, 4, 5, 6, 7, 8, 9, 11, 12, 13, 14, 15, 16, 17, 18, 19, 20, 21, 22, 23, 24, 25, 26, 32],
-    met: &[PARTED, ABSENT, CLIPPED, EXACT, LONG_FILL, GIVEN, REFUSED, NEAR],
+    refusals: &[1, 2, 3, 4, 5, 6, 7, 8, 9, 11, 12, 13, 14, 15, 16, 17, 18, 19, 20, 21, 22, 23, 24, 25, 26, 32, 33],
+    met: &[
+        PARTED,
+        ABSENT,
+        CLIPPED,
+        EXACT,
+        LONG_FILL,
+        GIVEN,
+        REFUSED,
+        NEAR,
+        times::NEITHER,
+        times::STARTED,
+        times::STOPPED,
+        times::BOTH,
+        times::AFTER,
+        times::AT_ONCE,
+        times::BEFORE,
+        times::NO_DELAY,
+        times::LAST,
+        times::FIRST,
+        times::UNTIMED,
+        times::LONG_BARE,
+        times::LONG_JOINED,
+    ],
     accepted: true,
     dear: 4,
 };
@@ -49,7 +72,7 @@ pub fn parts(bytes: &[u8]) -> (&[u8], &[u8], usize, usize) {
 }
 
 // Every cue of the small titles, lent exactly, more, and each buffer one short, and for another stream and 32; every cue of a title of few,
-// and of one of many each tenth. Every real unit with a text of no bytes.
+// and of one of many each tenth. Every real unit with a text of no bytes. Every delay, and times at the ends of their range.
 fn fixed(world: &World, each: &mut dyn FnMut(Request)) {
     for title in titles() {
         let (text, cues) = (title.text.as_bytes(), title.positions.len());
@@ -98,6 +121,95 @@ fn fixed(world: &World, each: &mut dyn FnMut(Request)) {
                 n[buffer] = mode;
                 each(request(b"", file, cue, stream, n));
             }
+        }
+    }
+    fixed_times(each);
+}
+
+// Four pixels with a band, the first field at that place, and blocks of one command each, with their delays.
+fn timed(top: usize, blocks: &[(usize, u8)]) -> Vec<u8> {
+    let mut bytes = vec![0, 0, 0, 9, 0, 1, 0x60, 0, 0x30];
+    for (i, &(delay, command)) in blocks.iter().enumerate() {
+        let start = bytes.len();
+        put(&mut bytes, delay);
+        put(&mut bytes, start);
+        if i == 0 {
+            bytes.extend([0x03, 0x01, 0x32, 0x04, 0x0F, 0xFF]);
+            area(&mut bytes, 0, 1, 0, 1);
+            bytes.push(0x06);
+            put(&mut bytes, top);
+            put(&mut bytes, 6);
+            change(&mut bytes, &[0, 0, 0x10, 1, 0, 1, 0x12, 0x34, 0xFE, 0xDC]);
+        }
+        bytes.extend([command, 0xFF]);
+        if i + 1 < blocks.len() {
+            let next = bytes.len();
+            set_word(&mut bytes, start + 2, next);
+        }
+    }
+    let length = bytes.len();
+    set_word(&mut bytes, 0, length);
+    bytes
+}
+
+fn at(milliseconds: i64) -> Vec<u8> {
+    format!("timestamp: 0:0:0:{milliseconds}, filepos: 0").into_bytes()
+}
+
+// The greatest start of a text in milliseconds; the least is as far below 0.
+const MOST: i64 = i64::MAX / 1000;
+
+// Places of the first field: as it is, where no byte of it is left (26), and past the unit (25).
+const FIELD: usize = 4;
+const NO_FIELD: usize = 9;
+const PAST: usize = 65535;
+
+fn fixed_times(each: &mut dyn FnMut(Request)) {
+    // every delay of a start and of a stop; the last start from which its time stays, and the next, from which it leaves
+    for d in 0..=65535 {
+        each(request(&at(1000), &timed(FIELD, &[(d, 1), (65535 - d, 2)]), 0, 0, [0; 4]));
+        let unit = if d % 2 == 0 { timed(FIELD, &[(d, 1)]) } else { timed(FIELD, &[(0, 1), (d, 2)]) };
+        for start in last_start(d)..=(last_start(d) + 1).min(MOST) {
+            each(request(&at(start), &unit, 0, 0, [0; 4]));
+        }
+    }
+    for start in [-MOST, 1 - MOST, -1_000_000, -745_643, -745_642, -12, -11, -1, 0, 1] {
+        for d in [0, 1, 8, 9, 10, 65534, 65535] {
+            let chains = [&[(d, 0)][..], &[(d, 1)], &[(d, 2)], &[(d, 1), (10, 2)], &[(10, 2), (d, 1)], &[(10, 0), (d, 2)], &[(d, 0xFF)]];
+            for blocks in chains {
+                each(request(&at(start), &timed(FIELD, blocks), 0, 0, [1; 4]));
+            }
+        }
+    }
+    // of all times 2^63 - 8 is the greatest that stays and 2^63 + 14 the least that leaves; the least and the greatest delay that lead there
+    for bound in [(1i128 << 63) - 8, (1 << 63) + 14] {
+        let delays: Vec<usize> = (0..=65535).filter(|&d| (bound - micros(d)) % 1000 == 0).collect();
+        for d in [delays[0], delays[delays.len() - 1]] {
+            let text = at(((bound - micros(d)) / 1000) as i64);
+            // the time is the show time; the hide time; both; and none: of a stop alone, of a second start, of a stop before another
+            let show = [&[(d, 0)][..], &[(d, 1)], &[(d, 1), (0, 2)]];
+            let hide = [&[(0, 1), (d, 2)][..], &[(d, 2), (0, 0)], &[(d, 1), (d, 2)]];
+            let none = [&[(d, 2)][..], &[(0, 1), (d, 1)], &[(0, 1), (d, 2), (0, 2)]];
+            for blocks in [show, hide, none].concat() {
+                for top in [FIELD, NO_FIELD, PAST] {
+                    lent_all_ways(&text, &timed(top, blocks), each);
+                }
+            }
+        }
+    }
+}
+
+// A unit bare and in a packet, with buffers that are as long as needed, longer, one short and none.
+fn lent_all_ways(text: &[u8], unit: &[u8], each: &mut dyn FnMut(Request)) {
+    let mut packet = vec![0, 0, 1, 0xBD, 0, unit.len() as u8 + 4, 0x80, 0, 0, 0x20];
+    packet.extend(unit);
+    for file in [unit, &packet] {
+        each(request(text, file, 0, 0, [0; 4]));
+        each(request(text, file, 0, 0, [1; 4]));
+        for (buffer, mode) in (0..4).flat_map(|buffer| [2, 3].map(|mode| (buffer, mode))) {
+            let mut n = [0; 4];
+            n[buffer] = mode;
+            each(request(text, file, 0, 0, n));
         }
     }
 }
@@ -195,13 +307,14 @@ fn banded(r: &mut Random, fault: Fault) -> Vec<u8> {
     bytes.extend(field::rows(r, width, height / 2));
     let control = bytes.len();
     let (mut offset, mut before) = (0, None);
+    // starts and stops that its blocks may have
+    let commands: &[u8] = *r.pick(&[&[][..], &[0, 1], &[0, 1], &[2], &[2], &[0, 1, 2], &[0, 1, 2], &[0, 1, 2]]);
     for block in 0..r.within(1, 3) {
         let start = bytes.len();
         if let Some(before) = before.replace(start) {
             set_word(&mut bytes, before + 2, start);
         }
-        let delay = r.below(65536);
-        put(&mut bytes, delay);
+        put(&mut bytes, delay(r));
         // the last block names itself
         put(&mut bytes, start);
         if block == 0 || r.once_in(4) {
@@ -229,8 +342,8 @@ fn banded(r: &mut Random, fault: Fault) -> Vec<u8> {
                 set_word(&mut bytes, at, size);
             }
         }
-        if r.once_in(2) {
-            bytes.push(r.below(3) as u8);
+        for _ in 0..if commands.is_empty() { 0 } else { r.within(1, 2) } {
+            bytes.push(*r.pick(commands));
         }
         match fault {
             Fault::Unknown => bytes.push(r.within(0x08, 0xFE) as u8),
@@ -312,8 +425,31 @@ fn text(r: &mut Random, fault: Fault, starts: &[String], positions: &[usize]) ->
     bytes
 }
 
+// A start in milliseconds as a text has it.
+fn written(r: &mut Random, start: i64) -> String {
+    let (hours, minutes, seconds, rest) = (start / 3_600_000, start / 60_000 % 60, start / 1000 % 60, start % 1000);
+    match r.below(4) {
+        0 => format!("0:0:0:{start}"),
+        1 => format!("0:0:{}:{rest}", start / 1000),
+        _ => format!("{hours:02}:{minutes:02}:{seconds:02}:{rest:03}"),
+    }
+}
+
+// A start in milliseconds near the end of the range: where a delay of the unit just leaves it or just stays, or within the longest delay.
+fn late(r: &mut Random, unit: &[u8]) -> i64 {
+    let decoded = tried(|| (crate::original::adapter::SIDE.unit)(unit)).ok().and_then(Result::ok);
+    let delays = decoded.map_or([0; 2], |d| [d.numbers[port::START], d.numbers[port::STOP]]);
+    let start = match r.below(3) {
+        2 => MOST - r.below(750_000) as i64,
+        i => last_start(delays[i]) + r.below(4) as i64 - 1,
+    };
+    start.min(MOST)
+}
+
 fn generate(world: &World, r: &mut Random) -> Request {
     let fault = fault(r);
+    // whether its start is near the end of the range (1), or near the other end (-1)
+    let end = *r.pick(&[0, 0, 0, 0, 0, 1, 1, 1, -1]);
     // the cue of a text of no bytes is at the front of the file
     let short = r.once_in(8).then(|| short_text(r));
     let cues = if short.is_some() { 1 } else { r.within(1, 4) };
@@ -344,8 +480,14 @@ fn generate(world: &World, r: &mut Random) -> Request {
         }
         let some = r.below(5);
         file.extend(r.bytes(some));
-        time += if r.once_in(10) { 0 } else { r.below(10_000_000) };
-        starts.push(if fault == Fault::FarApart && r.once_in(2) { r.pick(&TIMES).to_string() } else { format!("{:02}:{:02}:{:02}:{:03}", time / 3_600_000, time / 60_000 % 60, time / 1000 % 60, time % 1000) });
+        time += if r.once_in(10) { 0 } else { r.below(10_000_000) as i64 };
+        let start = match end {
+            1 if i == cue || r.once_in(2) => late(r, &unit),
+            // so are those of the other cues, so that no duration leaves the range
+            -1 => r.below(750_000) as i64 - MOST,
+            _ => time,
+        };
+        starts.push(if fault == Fault::FarApart && r.once_in(2) { r.pick(&TIMES).to_string() } else { written(r, start) });
     }
     if r.once_in(10) {
         let (i, j) = (r.below(cues), r.below(cues));
@@ -406,7 +548,7 @@ thread_local! {
 
 struct Answer {
     refusal: u8,
-    start: i64,
+    times: [i64; port::TIMES],
     numbers: [u64; port::SHOWN_NUMBERS],
 }
 
@@ -438,10 +580,10 @@ impl Lent {
         if self.words.len() < c + MARGIN {
             self.words.resize(c + MARGIN, WORD);
         }
-        let (mut start, mut numbers) = (START, [NUMBER as u64; port::SHOWN_NUMBERS]);
+        let (mut times, mut numbers) = ([START; port::TIMES], [NUMBER as u64; port::SHOWN_NUMBERS]);
         let lent = port::Lent { scratch: &mut self.scratch[..a], pixels: &mut self.pixels[..b], words: &mut self.words[..c], canvas: &mut self.canvas[..d] };
-        let refusal = port::decode_cue(text, file, cue, stream, lent, &mut start, &mut numbers);
-        Answer { refusal, start, numbers }
+        let refusal = port::decode_cue(text, file, cue, stream, lent, &mut times, &mut numbers);
+        Answer { refusal, times, numbers }
     }
 
     // Notes where a buffer does not have its front, or is written past it.
@@ -461,7 +603,7 @@ impl Lent {
     fn refused(&mut self, o: &mut Outcome, a: &Answer, number: u8, rooms: [usize; 4], scratch: &[u8]) {
         o.refusal = a.refusal;
         o.must(a.refusal == number, || format!("{number} is asked for; the port says {}", a.refusal));
-        o.must(a.start == START && a.numbers == [NUMBER as u64; port::SHOWN_NUMBERS], || "start or numbers are written on a refusal".into());
+        o.must(a.times == [START; port::TIMES] && a.numbers == [NUMBER as u64; port::SHOWN_NUMBERS], || "times or numbers are written on a refusal".into());
         self.left(o, rooms, Fronts { scratch, ..Default::default() });
     }
 }
@@ -556,7 +698,7 @@ fn compared(lent: &mut Lent, side: &Side, q: &Request) -> Outcome {
                         painted.duration = lasts;
                     }
                     let counts = crate::counted(|| (side.counting.unit)(&unit));
-                    found(&mut o, lent, q, &painted, scratch, stored, counts);
+                    found(&mut o, lent, side, q, &painted, scratch, stored, counts);
                     o.met.extend((o.both && walk.parted).then_some(PARTED));
                 }
             }
@@ -608,7 +750,7 @@ fn declined(o: &mut Outcome, lent: &mut Lent, q: &Request, number: u8, scratch: 
 }
 
 // A unit that the original paints.
-fn found(o: &mut Outcome, lent: &mut Lent, q: &Request, p: &Painted, scratch: usize, stored: &[u8], counts: Counts) {
+fn found(o: &mut Outcome, lent: &mut Lent, side: &Side, q: &Request, p: &Painted, scratch: usize, stored: &[u8], counts: Counts) {
     let needs = [p.decoded.map.len(), p.decoded.words.len(), p.canvas.len()];
     let rooms = [scratch, by_mode(q.n[1], needs[0]), by_mode(q.n[2], needs[1]), by_mode(q.n[3], needs[2])];
     let a = lent.ask(q, rooms);
@@ -617,11 +759,19 @@ fn found(o: &mut Outcome, lent: &mut Lent, q: &Request, p: &Painted, scratch: us
         o.rule = Some(SHORT[short]);
         return lent.refused(o, &a, 22 + short as u8, rooms, stored);
     }
-    o.both = a.refusal == 0 && o.panicked.is_none() && o.empty.is_none();
-    o.must(a.refusal == 0, || format!("the original accepts; the port says {}", a.refusal));
     let start = p.start.expect("a start");
     o.must(p.time == p.start, || "the original's frame has another time than its packet".into());
-    o.must(a.start == start || a.refusal != 0, || format!("the start {start}; the port says {}", a.start));
+    let cue = Delays::of(start, &p.decoded, counts);
+    o.long = side.times.rule(cue);
+    o.both = a.refusal == 0 && o.panicked.is_none() && o.empty.is_none();
+    o.met.extend(times::met(o, cue, !stored.is_empty()));
+    if o.long.is_some() {
+        return lent.refused(o, &a, 33, rooms, stored);
+    }
+    o.must(a.refusal == 0, || format!("the original accepts; the port says {}", a.refusal));
+    let [show, hide] = side.times.of(cue);
+    let asked = [start as i128, show.unwrap_or(0), hide.unwrap_or(0)];
+    o.must(a.times.map(i128::from) == asked || a.refusal != 0, || format!("the times {asked:?}; the port says {:?}", a.times));
     let of = |place: usize| p.decoded.numbers[place] as u64;
     let asked = [
         p.duration.is_some() as u64,
@@ -634,8 +784,11 @@ fn found(o: &mut Outcome, lent: &mut Lent, q: &Request, p: &Painted, scratch: us
         (p.canvas.len() / p.stride) as u64,
         counts.codes as u64,
         counts.clipped as u64,
+        counts.started as u64,
+        counts.stopped as u64,
+        hide.is_some() as u64,
     ];
     o.must(a.numbers == asked || a.refusal != 0, || format!("the numbers {asked:?}; the port says {:?}", a.numbers));
-    o.met.extend(counts.met().filter(|_| o.both));
+    o.met.extend(counts.met().chain([times::stood(counts)]).filter(|_| o.both));
     lent.left(o, rooms, Fronts { scratch: stored, pixels: &p.decoded.map, words: &p.decoded.words, canvas: &p.canvas });
 }

@@ -2,8 +2,18 @@
 use crate::class::*;
 use crate::classes::{bands, unit};
 use crate::random::Random;
+use crate::times::STOOD;
 
-pub const CLASS: Class = Class { name: "control", fixed, generate, compare: unit::compare, refusals: &[16, 17, 18, 19, 20, 21, 22, 23, 25, 26], met: &[], accepted: true, dear: 1 };
+pub const CLASS: Class = Class {
+    name: "control",
+    fixed,
+    generate,
+    compare: unit::compare,
+    refusals: &[16, 17, 18, 19, 20, 21, 22, 23, 25, 26],
+    met: &STOOD,
+    accepted: true,
+    dear: 1,
+};
 
 // a unit whose commands are these bytes, after four bytes of fills
 fn with_commands(commands: &[u8]) -> Vec<u8> {
@@ -71,8 +81,7 @@ fn generate(_: &World, r: &mut Random) -> Request {
     let mut places = Vec::new();
     for _ in 0..blocks {
         places.push(bytes.len());
-        let delay = r.below(65536);
-        unit::put(&mut bytes, delay);
+        unit::put(&mut bytes, unit::delay(r));
         unit::put(&mut bytes, 0);
         for _ in 0..r.below(6) {
             command(r, fills.min(8), &mut bytes);

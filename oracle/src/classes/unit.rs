@@ -5,10 +5,20 @@ use crate::classes::{bands, field};
 use crate::port;
 use crate::random::Random;
 use crate::side::{Decoded, Side, number_of};
+use crate::times;
 use crate::{CLIPPED, Counts, EXACT, LONG_FILL};
 use std::cell::RefCell;
 
-pub const CLASS: Class = Class { name: "units", fixed, generate, compare, refusals: &[15, 16, 17, 18, 19, 20, 21, 22, 23, 25, 26], met: &[CLIPPED, EXACT, LONG_FILL], accepted: true, dear: 1 };
+pub const CLASS: Class = Class {
+    name: "units",
+    fixed,
+    generate,
+    compare,
+    refusals: &[15, 16, 17, 18, 19, 20, 21, 22, 23, 25, 26],
+    met: &[CLIPPED, EXACT, LONG_FILL, times::NEITHER, times::STARTED, times::STOPPED, times::BOTH],
+    accepted: true,
+    dear: 1,
+};
 
 fn fixed(world: &World, each: &mut dyn FnMut(Request)) {
     for unit in &world.units {
@@ -51,6 +61,11 @@ pub fn set_word(bytes: &mut [u8], at: usize, word: usize) {
     }
 }
 
+// The delay of a block.
+pub fn delay(r: &mut Random) -> usize {
+    if r.once_in(4) { *r.pick(&[0, 0, 0, 1, 8, 9, 10, 65534, 65535]) } else { r.below(65536) }
+}
+
 pub fn made(r: &mut Random) -> Vec<u8> {
     let width = if r.once_in(30) { r.within(1, 720) } else { r.within(1, 40) };
     let height = if r.once_in(30) { r.within(1, 60) } else { r.within(1, 12) };
@@ -85,8 +100,7 @@ pub fn made(r: &mut Random) -> Vec<u8> {
     let blocks = r.within(1, 3);
     for block in 0..blocks {
         let start = bytes.len();
-        let delay = r.below(65536);
-        put(&mut bytes, delay);
+        put(&mut bytes, delay(r));
         put(&mut bytes, 0);
         let mut orders: Vec<usize> = (0..8).collect();
         for i in (1..orders.len()).rev() {
@@ -324,16 +338,18 @@ fn accepted(o: &mut Outcome, lent: &mut Lent, a: &Answer, d: &Decoded, counts: C
     o.both = a.refusal == 0;
     o.must(a.refusal == 0, || format!("the original accepts; the port says {}", a.refusal));
     let mut numbers = a.numbers;
-    for (place, count, what) in [(port::CODES, counts.codes, "codes"), (port::CLIPPED, counts.clipped, "clipped codes")] {
+    // added values, which the counting copy has
+    let added = [
+        (port::CODES, counts.codes, "codes"),
+        (port::CLIPPED, counts.clipped, "clipped codes"),
+        (port::STARTED, counts.started as usize, "for a start"),
+        (port::STOPPED, counts.stopped as usize, "for a stop"),
+    ];
+    for (place, count, what) in added {
         o.must(numbers[place] == count, || format!("{count} {what}; the port says {}", a.numbers[place]));
         numbers[place] = 0;
     }
-    o.met.extend(counts.met().filter(|_| o.both));
-    // added values: checked as far as the original has something that goes with them
-    for (said, delay) in [(port::STARTED, port::START), (port::STOPPED, port::STOP)] {
-        o.must(numbers[said] < 2 && (numbers[said] == 1 || numbers[delay] == 0), || format!("{} and a delay of {}", numbers[said], numbers[delay]));
-        numbers[said] = 0;
-    }
+    o.met.extend(counts.met().chain([times::stood(counts)]).filter(|_| o.both));
     o.must(numbers == d.numbers, || format!("the record {:?}; the port says {:?}", d.numbers, a.numbers));
     o.must((d.width, d.height) == (numbers[2] + 1 - numbers[0], numbers[3] + 1 - numbers[1]), || "width and height".into());
     o.must(lent.map[..d.map.len()] == d.map, || "the map".into());

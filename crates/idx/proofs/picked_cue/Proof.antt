@@ -1,7 +1,7 @@
 -- `idx::picked_cue` meets its contract: past the last cue, at it, before it. Assumes nothing.
 use borrow.Author.Needs.{needs}
 use mathlib.Core.Path.{_∙_, ap₂}
-use lib.IntN.{ℤ, _-ℤ_}
+use lib.IntN.{ℤ, pos, _-ℤ_}
 use mir.Syntax.{w64}
 use mir.Facts.{toZ-ofZ}
 use Rattle.grammar.specs.IndexCues.{clip}
@@ -50,7 +50,7 @@ returns-3 c =
     λ t e f.
     pick-next (start .args .cue) t (start .args .seen) e (start .args .palette) f
     (there .if1 .left) (later .if2 .left) _ z
-    (c .duration-of .result) (c .duration-of .ensures ∙ ap₂ (λ (a b : ℤ). clip (a -ℤ b)) y z)
+    (c .duration-of .result .0) (c .duration-of .ensures ∙ ap₂ (λ (a b : ℤ). pos (clip (a -ℤ b))) y z)
 
 pub picked-cue-spec : {M : Type 1} → statement M
 picked-cue-spec =

@@ -1,6 +1,7 @@
 -- `idx_numbers::time_of` meets its contract. Assumes nothing.
 use mathlib.Core.Path.{sym, _∙_}
-use Rattle.idx_numbers_model.proofs.Times.{step-mul, step-add, from-checked}
+use Rattle.clock_model.proofs.Sums.{step-add, from-checked}
+use Rattle.idx_numbers_model.proofs.Times.{step-mul}
 use borrow.Author.Needs.{needs}
 use Rattle.idx_numbers.proofs.time_of.Statement.{statement}
 use Rattle.idx_numbers.proofs.time_of.Tie as tie

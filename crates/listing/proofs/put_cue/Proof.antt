@@ -3,13 +3,16 @@ use borrow.Author.Needs.{needs}
 use Prim.Native.Nat.{ℕ}
 use mathlib.Core.Path.{_≡_}
 use native.Mathlib.Omega.{arith}
-use mir.Syntax.{w64}
-use mir.Facts.{toZ-ofZ}
+use lib.ListN.{length}
 use Rattle.ps_model.proofs.Unit.{named}
 use Rattle.listing_model.proofs.Units.{found-line, none-line, scratch-kept}
 use Rattle.listing_model.specs.Answers.{durationIs}
 use Rattle.listing.proofs.put_cue.Statement.{statement}
 use Rattle.listing.proofs.put_cue.Tie as tie
+
+-- scratch has 65,536 bytes
+long : (c : tie.After-extract-spu-arg) → length (c .before .before .args .scratch .now) ≡ 65536
+long c = search needs
 
 extract-spu-requires : tie.Need-extract-spu-requires
 extract-spu-requires c κs = search needs
@@ -34,21 +37,24 @@ put-refused-requires c κs = search needs
 
 returns : tie.Need-returns
 returns c =
-    let s = c .before .before .before .before .before .before .before .before .before .before in
-    let t = c .before .before .before .before .before .before .before .before .before in
-    (found-line (s .args .n) (s .args .start) (durationIs (s .args .lasts) (s .args .duration)) _ (toZ-ofZ {w = w64} (s .fits .start)) _ (s .args .file .now) (t .shared-slice-known .given) (s .args .position) _ _ _ (search needs) (named (c .before .before .before .before .before .k .given .1) (c .before .before .before .before .before .before .before .extract-spu .ensures .0)) (λ k q. let z : _≡_ {A = ℕ} 0 1 = cc in omega arith) (c .put-found .ensures), scratch-kept (s .args .file .now) (t .shared-slice-known .given) (s .args .position) _ _ _ (search needs) (c .before .before .before .before .before .before .before .extract-spu .ensures .0))
+    let o = c .before .before .before .before .before .before .before .before in
+    let t = o .before in
+    let s = t .before in
+    (found-line (s .args .n) (s .args .start .0) (durationIs (s .args .lasts) (s .args .duration)) _ (s .args .file .now) (t .shared-slice-known .given) (s .args .position) _ _ _ (long o) (named (c .before .before .before .before .before .k .given .1) (c .before .before .before .before .before .before .before .extract-spu .ensures .0)) (λ k q. let z : _≡_ {A = ℕ} 0 1 = cc in omega arith) (c .put-found .ensures), scratch-kept (s .args .file .now) (t .shared-slice-known .given) (s .args .position) _ _ _ (long o) (c .before .before .before .before .before .before .before .extract-spu .ensures .0))
 
 returns-2 : tie.Need-returns-2
 returns-2 c =
-    let s = c .before .before .before .before .before .before .before .before .before .before in
-    let t = c .before .before .before .before .before .before .before .before .before in
-    (found-line (s .args .n) (s .args .start) (durationIs (s .args .lasts) (s .args .duration)) _ (toZ-ofZ {w = w64} (s .fits .start)) _ (s .args .file .now) (t .shared-slice-known .given) (s .args .position) _ _ _ (search needs) (named (c .before .before .before .before .before .k2 .given .1) (c .before .before .before .before .before .before .before .extract-spu .ensures .0)) (λ k q. let z : _≡_ {A = ℕ} 0 1 = cc in omega arith) (c .put-found2 .ensures), scratch-kept (s .args .file .now) (t .shared-slice-known .given) (s .args .position) _ _ _ (search needs) (c .before .before .before .before .before .before .before .extract-spu .ensures .0))
+    let o = c .before .before .before .before .before .before .before .before in
+    let t = o .before in
+    let s = t .before in
+    (found-line (s .args .n) (s .args .start .0) (durationIs (s .args .lasts) (s .args .duration)) _ (s .args .file .now) (t .shared-slice-known .given) (s .args .position) _ _ _ (long o) (named (c .before .before .before .before .before .k2 .given .1) (c .before .before .before .before .before .before .before .extract-spu .ensures .0)) (λ k q. let z : _≡_ {A = ℕ} 0 1 = cc in omega arith) (c .put-found2 .ensures), scratch-kept (s .args .file .now) (t .shared-slice-known .given) (s .args .position) _ _ _ (long o) (c .before .before .before .before .before .before .before .extract-spu .ensures .0))
 
 returns-3 : tie.Need-returns-3
 returns-3 c =
-    let s = c .before .before .before .before .before .before .before .before in
-    let t = c .before .before .before .before .before .before .before in
-    (none-line (s .args .n) (s .args .start) (durationIs (s .args .lasts) (s .args .duration)) _ (s .args .file .now) (t .shared-slice-known .given) (s .args .position) _ _ _ _ (search needs) (c .before .before .before .before .before .extract-spu .ensures .0) (c .before .before .before .number .given .1) (c .put-refused .ensures), scratch-kept (s .args .file .now) (t .shared-slice-known .given) (s .args .position) _ _ _ (search needs) (c .before .before .before .before .before .extract-spu .ensures .0))
+    let o = c .before .before .before .before .before .before in
+    let t = o .before in
+    let s = t .before in
+    (none-line (s .args .n) (s .args .start .0) (durationIs (s .args .lasts) (s .args .duration)) _ (s .args .file .now) (t .shared-slice-known .given) (s .args .position) _ _ _ _ (long o) (c .before .before .before .before .before .extract-spu .ensures .0) (c .before .before .before .number .given .1) (c .put-refused .ensures), scratch-kept (s .args .file .now) (t .shared-slice-known .given) (s .args .position) _ _ _ (long o) (c .before .before .before .before .before .extract-spu .ensures .0))
 
 pub put-cue-spec : {M : Type 1} → statement M
 put-cue-spec =

@@ -1,7 +1,5 @@
 -- `listing::put_found` meets its contract: the line of the unit's bytes. Assumes nothing.
 use borrow.Author.Needs.{needs}
-use mir.Syntax.{w64}
-use mir.Facts.{toZ-ofZ}
 use Rattle.listing_model.proofs.Units.{part-line}
 use Rattle.listing_model.specs.Answers.{durationIs}
 use Rattle.listing.proofs.put_found.Statement.{statement}
@@ -16,7 +14,8 @@ put-unit-requires c κs = search needs
 returns : tie.Need-returns
 returns c =
     let s = c .before .before .before .before .before in
-    part-line (s .args .n) (s .args .start) (durationIs (s .args .lasts) (s .args .duration)) _ (toZ-ofZ {w = w64} (s .fits .start)) _ _ _ (c .before .before .unit-part .ensures) (c .put-unit .ensures)
+    part-line (s .args .n) (s .args .start .0) (durationIs (s .args .lasts) (s .args .duration)) _ _ _
+    (c .before .before .unit-part .ensures) (c .put-unit .ensures)
 
 pub put-found-spec : {M : Type 1} → statement M
 put-found-spec = tie.close (tie.spec unit-part-requires put-unit-requires returns)

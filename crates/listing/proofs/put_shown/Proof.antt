@@ -52,7 +52,7 @@ cast-put-delays : tie.Need-cast-put-delays
 cast-put-delays c = search needs
 
 cast-put-delays-2 : tie.Need-cast-put-delays-2
-cast-put-delays-2 c = omega (arith, c .struct-known8 .given .1 .1 .1 .1 .1 .1 .1 .1 .1 .1 .0)
+cast-put-delays-2 c = omega (arith, c .struct-known8 .given .0)
 
 put-delays-requires : tie.Need-put-delays-requires
 put-delays-requires c κs = search needs
@@ -60,8 +60,13 @@ put-delays-requires c κs = search needs
 returns : tie.Need-returns
 unfolding shownLine
 returns c =
-    let s = c .before .before .before .before .before .before .before .before .before .before .before .before .before .before in
-    put-put (put-as (ap (λ (z : ℤ). times (s .args .n) z (durationIs (s .args .lasts) (s .args .duration))) (toZ-ofZ {w = w64} (s .fits .start))) (c .before .before .before .before .before .before .before .before .put-times .ensures)) (put-put (c .before .before .before .before .put-area .ensures) (c .put-delays .ensures))
+    let area = c .before .before .before .before .before .before in
+    let timed = area .before .before .before .before in
+    let s = timed .before .before .before .before .before .before in
+    put-put
+    (put-as (ap (λ (z : ℤ). times (s .args .n) z (durationIs (s .args .lasts) (s .args .duration))) (toZ-ofZ {w = w64} (s .fits .start)))
+    (timed .put-times .ensures))
+    (put-put (area .put-area .ensures) (c .put-delays .ensures))
 
 pub put-shown-spec : {M : Type 1} → statement M
 put-shown-spec =

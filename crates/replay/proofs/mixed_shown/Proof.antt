@@ -5,10 +5,10 @@ use Rattle.replay.proofs.mixed_shown.Statement.{statement}
 use Rattle.replay.proofs.mixed_shown.Tie as tie
 
 abbrev Inv-loop : tie.InvT-loop
-Inv-loop sum s t₀ i₀ t i = i ≤ 10
+Inv-loop sum s t₀ i₀ t i = i ≤ 13
 
 abbrev μ-loop : tie.MeasureT-loop
-μ-loop sum s t₀ i₀ t i = 10 - i
+μ-loop sum s t₀ i₀ t i = 13 - i
 
 loop-holds : tie.Need-loop-holds Inv-loop μ-loop
 loop-holds c = search needs

@@ -2,8 +2,8 @@
 use borrow.Author.Needs.{needs}
 use mir.Syntax.{w64}
 use mir.Facts.{toZ-ofZ}
-use Rattle.idx_numbers_model.proofs.Times.{yes-lt, no-lt}
-use Rattle.idx_numbers_model.proofs.Minus.{minus-fits, minus-cast, plain-cast}
+use Rattle.clock_model.proofs.Sums.{yes-lt, no-lt}
+use Rattle.clock_model.proofs.Minus.{minus-fits, minus-cast, plain-cast}
 use Rattle.replay.proofs.mixed_signed.Statement.{statement}
 use Rattle.replay.proofs.mixed_signed.Tie as tie
 

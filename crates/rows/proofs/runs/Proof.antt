@@ -5,22 +5,22 @@ use Rattle.rows.proofs.runs.Statement.{statement}
 use Rattle.rows.proofs.runs.Tie as tie
 
 abbrev Inv-loop : tie.InvT-loop
-Inv-loop bytes words n found from₀ i₀ from i = (from ≤ i) × (i ≤ n)
+Inv-loop bytes words longs n found from₀ i₀ from i = (from ≤ i) × (i ≤ n)
 
 abbrev μ-loop : tie.MeasureT-loop
-μ-loop bytes words n found from₀ i₀ from i = n - i
+μ-loop bytes words longs n found from₀ i₀ from i = n - i
 
 loop-holds : tie.Need-loop-holds Inv-loop μ-loop
 loop-holds c = search needs
 
-value-requires : tie.Need-value-requires Inv-loop μ-loop
-value-requires c κs = search needs
+any-value-requires : tie.Need-any-value-requires Inv-loop μ-loop
+any-value-requires c κs = search needs
 
 add-i : tie.Need-add-i Inv-loop μ-loop
 add-i c = search needs
 
-value-requires-2 : tie.Need-value-requires-2 Inv-loop μ-loop
-value-requires-2 c κs = search needs
+any-value-requires-2 : tie.Need-any-value-requires-2 Inv-loop μ-loop
+any-value-requires-2 c κs = search needs
 
 sub-run : tie.Need-sub-run Inv-loop μ-loop
 sub-run c = search needs
@@ -50,9 +50,9 @@ runs-spec =
     Inv-loop
     μ-loop
     loop-holds
-    value-requires
+    any-value-requires
     add-i
-    value-requires-2
+    any-value-requires-2
     sub-run
     run-requires
     loop-less

@@ -7,10 +7,10 @@ use Rattle.rows.proofs.sizes.Statement.{statement}
 use Rattle.rows.proofs.sizes.Tie as tie
 
 abbrev Inv-loop : tie.InvT-loop
-Inv-loop numbers all₀ i₀ all i = (length all ≡ 17) × (i ≤ 10)
+Inv-loop numbers all₀ i₀ all i = (length all ≡ 17) × (i ≤ 13)
 
 abbrev μ-loop : tie.MeasureT-loop
-μ-loop numbers all₀ i₀ all i = 10 - i
+μ-loop numbers all₀ i₀ all i = 13 - i
 
 loop-holds : tie.Need-loop-holds Inv-loop μ-loop
 loop-holds c = search needs

@@ -51,10 +51,10 @@ word-of-requires-2 : tie.Need-word-of-requires-2
 word-of-requires-2 c κs = search needs
 
 cast-top : tie.Need-cast-top
-cast-top c = search needs
+cast-top c = omega (arith, c .struct-known5 .given .1 .1 .1 .1 .1 .1 .1 .1 .1 .1 .1 .0)
 
 cast-bottom : tie.Need-cast-bottom
-cast-bottom c = search needs
+cast-bottom c = omega (arith, c .struct-known6 .given .1 .1 .1 .1 .1 .1 .1 .1 .1 .1 .1 .1 .0)
 
 ending-requires : tie.Need-ending-requires
 ending-requires c κs = search needs

@@ -3,30 +3,28 @@ use Prim.Native.Nat.{ℕ}
 use mathlib.Core.Path.{_≡_, refl, sym, ap, subst, _∙_}
 use mathlib.Core.List.{List}
 use lib.IntN.{ℤ}
-use mir.Facts.{toZ-ofZ}
-use mir.Syntax.{w64}
 use borrow.Author.Needs.{needs}
 use Rattle.grammar.specs.Reading.{Wanted}
 use Rattle.vobsub_model.specs.Call.{Lent}
 use Rattle.vobsub_model.specs.Answers.{CuePainted}
 use Rattle.vobsub_model.specs.Claim.{Exactly}
 use Rattle.vobsub_model.specs.declared.CanvasAnswer.{CanvasAnswer}
-use Rattle.vobsub_c.specs.Answers.{canvasRefusal, canvasStart, canvasRecord, CueDecoded, CueUndisturbed}
+use Rattle.vobsub_c.specs.Answers.{canvasRefusal, canvasTimes, canvasRecord, CueDecoded, CueUndisturbed}
 use Rattle.vobsub_c.proofs.Returned.{canvas-returned}
 use Rattle.vobsub_c.proofs.Streams.{cue-kept}
 use Rattle.vobsub_c.proofs.vobsub_decode_cue.Statement.{statement}
 use Rattle.vobsub_c.proofs.vobsub_decode_cue.Tie as tie
 
--- what is left where the call's answer is known, and start and numbers are its own
-given : (t f : List ℕ) (w : Wanted) (b b′ : Lent) (z z′ : ℤ) (ns ns′ : List ℕ) (a d : CanvasAnswer) → a ≡ d
-    → CuePainted t f w b a b′ → Exactly t f w b a b′ → z′ ≡ canvasStart d z → ns′ ≡ canvasRecord d ns
-    → CueDecoded t f w b z ns (canvasRefusal d) b′ z′ ns′ × CueUndisturbed t f w b z ns (canvasRefusal d) b′ z′ ns′
-given t f w b b′ z z′ ns ns′ a d e q x k h =
+-- what is left where the call's answer is known, and times and numbers are its own
+given : (t f : List ℕ) (w : Wanted) (b b′ : Lent) (zs zs′ : List ℤ) (ns ns′ : List ℕ) (a d : CanvasAnswer) → a ≡ d
+    → CuePainted t f w b a b′ → Exactly t f w b a b′ → zs′ ≡ canvasTimes d zs → ns′ ≡ canvasRecord d ns
+    → CueDecoded t f w b zs ns (canvasRefusal d) b′ zs′ ns′ × CueUndisturbed t f w b zs ns (canvasRefusal d) b′ zs′ ns′
+given t f w b b′ zs zs′ ns ns′ a d e q x k h =
     let y = sym e ∙ q .answer in
-    cue-kept t f w b z ns _ b′ z′ ns′ (record {
+    cue-kept t f w b zs ns _ b′ zs′ ns′ (record {
       refusal = ap canvasRefusal y;
       returned = canvas-returned t f w b _ (ap canvasRefusal y);
-      starts-at = k ∙ ap (λ (o : CanvasAnswer). canvasStart o z) y;
+      timed = k ∙ ap (λ (o : CanvasAnswer). canvasTimes o zs) y;
       told = h ∙ ap (λ (o : CanvasAnswer). canvasRecord o ns) y;
       in-scratch = q .in-scratch;
       in-pixels = q .in-pixels;
@@ -35,11 +33,22 @@ given t f w b b′ z z′ ns ns′ a d e q x k h =
       exactly = subst (λ (o : CanvasAnswer). Exactly t f w b o b′) (q .answer) x;
     })
 
+-- ---- Where the call has answered
+
+abbrev called : tie.After-s → tie.After-decode-cue
+called c = c .before .before .before .before .before .before .before .before .before .before
+
+abbrev refused : tie.After-number → tie.After-decode-cue
+refused c = c .before .before .before .before .before .before .before .before .before .before
+
 decode-cue-requires : tie.Need-decode-cue-requires
 decode-cue-requires c κs = search needs
 
 enum-known-s : tie.Need-enum-known-s
 enum-known-s c = search needs
+
+shown-times-of-requires : tie.Need-shown-times-of-requires
+shown-times-of-requires c κs = search needs
 
 shown-numbers-of-requires : tie.Need-shown-numbers-of-requires
 shown-numbers-of-requires c κs = search needs
@@ -60,7 +69,10 @@ same-length-4 : tie.Need-same-length-4
 same-length-4 c = search needs
 
 returns : tie.Need-returns
-returns c = given _ _ _ _ _ _ _ _ _ _ _ (c .before .before .before .s .given .1) (c .before .before .before .before .before .before .before .before .before .before .before .before .before .decode-cue .ensures .0) (c .before .before .before .before .before .before .before .before .before .before .before .before .before .decode-cue .ensures .1) (toZ-ofZ {w = w64} (record { sfits = c .before .struct-told .given .0 .1 })) (c .shown-numbers-of .ensures)
+returns c =
+    let s = c .before .before .before in
+    given _ _ _ _ _ _ _ _ _ _ _ (s .s .given .1) (called s .decode-cue .ensures .0) (called s .decode-cue .ensures .1)
+    (c .before .shown-times-of .ensures) (c .shown-numbers-of .ensures)
 
 same-length-5 : tie.Need-same-length-5
 same-length-5 c = search needs
@@ -75,7 +87,9 @@ same-length-8 : tie.Need-same-length-8
 same-length-8 c = search needs
 
 returns-2 : tie.Need-returns-2
-returns-2 c = given _ _ _ _ _ _ _ _ _ _ _ (c .before .number .given .1) (c .before .before .before .before .before .before .before .before .before .before .before .decode-cue .ensures .0) (c .before .before .before .before .before .before .before .before .before .before .before .decode-cue .ensures .1) refl refl
+returns-2 c =
+    let n = c .before in
+    given _ _ _ _ _ _ _ _ _ _ _ (n .number .given .1) (refused n .decode-cue .ensures .0) (refused n .decode-cue .ensures .1) refl refl
 
 pub vobsub-decode-cue-spec : {M : Type 1} → statement M
 vobsub-decode-cue-spec =
@@ -83,6 +97,7 @@ vobsub-decode-cue-spec =
     (tie.spec
     decode-cue-requires
     enum-known-s
+    shown-times-of-requires
     shown-numbers-of-requires
     enum-known-number
     same-length

@@ -19,13 +19,13 @@ use Rattle.vobsub_c.proofs.vobsub_pick_cue.Tie as tie
 
 module _ (t : List ℕ) (n : ℕ) (z : ℤ) (px ns : List ℕ) (a : CueAnswer) (q : a ≡ cueAnswer (pickOf (idxOf t) n)) where
   -- what is left where nothing is refused; the start goes through 64 bits
-  accepted : a .refused ≡ 0 → (z′ : ℤ) → z′ ≡ a .start → (ns′ : List ℕ) → ns′ ≡ cueNumbers a → CueGiven t n z px ns 0 z′ (a .palette) ns′
+  accepted : a .refused ≡ 0 → (z′ : ℤ) → z′ ≡ a .start .0 → (ns′ : List ℕ) → ns′ ≡ cueNumbers a → CueGiven t n z px ns 0 z′ (a .palette) ns′
   accepted e z′ k ns′ h =
       let y = eq-eqb (a .refused) 0 e in
       record {
         refusal = sym e ∙ ap (λ (o : CueAnswer). o .refused) q;
         returned = cue-returned t n 0 (sym e ∙ ap (λ (o : CueAnswer). o .refused) q);
-        starts-at = k ∙ sym (ap (λ (b : Bool). cond b (a .start) z) y) ∙ ap (λ (o : CueAnswer). cueStart o z) q;
+        starts-at = k ∙ sym (ap (λ (b : Bool). cond b (a .start .0) z) y) ∙ ap (λ (o : CueAnswer). cueStart o z) q;
         told = h ∙ sym (ap (λ (b : Bool). cond b (cueNumbers a) ns) y) ∙ ap (λ (o : CueAnswer). cueRecord o ns) q;
         colours = sym (ap (λ (b : Bool). cond b (a .palette) px) y) ∙ ap (λ (o : CueAnswer). cuePalette o px) q;
       }
@@ -37,7 +37,7 @@ module _ (t : List ℕ) (n : ℕ) (z : ℤ) (px ns : List ℕ) (a : CueAnswer) (
       record {
         refusal = ap (λ (o : CueAnswer). o .refused) q;
         returned = cue-returned t n (a .refused) (ap (λ (o : CueAnswer). o .refused) q);
-        starts-at = sym (ap (λ (b : Bool). cond b (a .start) z) y) ∙ ap (λ (o : CueAnswer). cueStart o z) q;
+        starts-at = sym (ap (λ (b : Bool). cond b (a .start .0) z) y) ∙ ap (λ (o : CueAnswer). cueStart o z) q;
         told = sym (ap (λ (b : Bool). cond b (cueNumbers a) ns) y) ∙ ap (λ (o : CueAnswer). cueRecord o ns) q;
         colours = sym (ap (λ (b : Bool). cond b (a .palette) px) y) ∙ ap (λ (o : CueAnswer). cuePalette o px) q;
       }
@@ -49,7 +49,11 @@ cue-numbers-of-requires : tie.Need-cue-numbers-of-requires
 cue-numbers-of-requires c κs = search needs
 
 returns : tie.Need-returns
-returns c = accepted _ _ _ _ _ _ (c .before .before .before .before .before .pick-cue .ensures .0) (c .before .before .before .if1 .taken) _ (toZ-ofZ {w = w64} (record { sfits = c .before .before .struct-told .given .1 .0 .1 })) _ (c .cue-numbers-of .ensures)
+returns c =
+    let from = c .before .before in
+    let taken = from .before .before in
+    accepted _ _ _ _ _ _ (taken .before .before .pick-cue .ensures .0) (taken .if1 .taken) _
+    (toZ-ofZ {w = w64} (record { sfits = from .struct-told .given .0 .1 })) _ (c .cue-numbers-of .ensures)
 
 returns-2 : tie.Need-returns-2
 returns-2 c = declined _ _ _ _ _ _ (c .before .before .pick-cue .ensures .0) (c .if1 .left)

@@ -10,6 +10,7 @@ use mir.Syntax.{w64}
 use mir.Val.{Fits, SFits, toZ, ofZ}
 use mir.Facts.{toZ-ofZ, fits-natAbs}
 use borrow.Author.Tests.{ltb-true}
+use Rattle.clock_model.specs.Answers.{microsCount}
 
 -- -1 less z, for a z below 0
 record Up (z : ℤ) : Type 0 where
@@ -45,3 +46,15 @@ module _ (z y : ℤ) (f : SFits w64 z) (e : y ≡ z) where
       up : (x : ℤ) → pos 0 ≤ℤ x → T (nonNeg x)
       up (pos n) l = tt
       up (negsuc n) l = absurd (l .le)
+
+-- as a count of microseconds
+pub count-below : (z : ℤ) → z <ℤ pos 0 → 0 ≡ microsCount z
+count-below (pos n) h = absurd (omega (arith, ltb→lt n 0 (h .lt)))
+count-below (negsuc n) h = refl
+
+pub count-is : (z y : ℤ) → y ≡ z → pos 0 ≤ℤ z → natAbs y ≡ microsCount z
+count-is z y e h = ap natAbs e ∙ go z h
+  where
+    go : (x : ℤ) → pos 0 ≤ℤ x → natAbs x ≡ microsCount x
+    go (pos n) l = refl
+    go (negsuc n) l = absurd (l .le)

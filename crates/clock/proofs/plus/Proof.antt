@@ -1,11 +1,11 @@
--- `idx_numbers::plus` meets its contract. Assumes nothing.
+-- `clock::plus` meets its contract. Assumes nothing.
 use mathlib.Core.Path.{ap₂}
 use lib.IntN.{pos, negsuc, _+ℤ_, _-ℤ_}
 use mir.Syntax.{w64}
 use mir.ValLaws.{toZ-ofZ}
-use Rattle.idx_numbers_model.proofs.Times.{yes-lt, no-lt, over-checked, done, low-room, low-over, low-stays, mixed-left, mixed-right, high-room, high-over, high-stays}
-use Rattle.idx_numbers.proofs.plus.Statement.{statement}
-use Rattle.idx_numbers.proofs.plus.Tie as tie
+use Rattle.clock_model.proofs.Sums.{yes-lt, no-lt, over-checked, done, low-room, low-over, low-stays, mixed-left, mixed-right, high-room, high-over, high-stays}
+use Rattle.clock.proofs.plus.Statement.{statement}
+use Rattle.clock.proofs.plus.Tie as tie
 
 sub-if3 : tie.Need-sub-if3
 sub-if3 c =

@@ -1,0 +1,4 @@
+pub mod Sums
+pub mod Minus
+pub mod Clock
+pub mod Cards
