@@ -5,7 +5,6 @@ use mathlib.Core.Path.{_≡_, refl, sym, ap, _∙_}
 use mathlib.Core.Logic.{_↔_}
 use mathlib.Core.Bool.{Bool, true, false, cond, _&&_}
 use mathlib.Core.Option.{Option, some, none}
-use lib.Dec.{ltb}
 use lib.IntN.{ℤ, pos, _+ℤ_}
 use lib.Signed.{mag}
 use borrow.Author.Tests.{lt-ltb, ltb-true}
@@ -15,9 +14,10 @@ use mir.ValLaws.{toZ-ofZ}
 use Rattle.outcome.specs.Outcome.{Res, ok, refuse, check, mapRes, long-instant}
 use Rattle.outcome.proofs.Laws.{clash}
 use Rattle.grammar.specs.Record.{given, delayOf}
+use Rattle.grammar.specs.Index.{Stays}
 use Rattle.grammar.specs.Times.{inMicros, showTime, hideTime, TimeStays}
-use Rattle.clock_model.specs.Sums.{checked, pick}
-use Rattle.clock_model.specs.Clock.{stays, timesStay, inTime}
+use Rattle.clock_model.specs.Sums.{checked, pick, stays}
+use Rattle.clock_model.specs.Clock.{timeStays, timesStay, inTime}
 use Rattle.clock_model.specs.Answers.{micros, delayed, timesOf, timesAnswer}
 use Rattle.clock_model.specs.declared.Num.the-variants.{Over, Is}
 use Rattle.clock_model.specs.declared.Times.{Times}
@@ -27,13 +27,21 @@ use Rattle.clock_model.proofs.Sums.{from-checked}
 
 -- ---- Times that stay
 
-stays-is : (o : Option ℤ) → stays o ≡ true → TimeStays o
-stays-is none e = tt
-stays-is (some z) e = ltb-true (mag z) (2 ^ 63) e
+-- a number
+pub stays-is : (z : ℤ) → stays z ≡ true → Stays z
+stays-is z e = ltb-true (mag z) (2 ^ 63) e
 
-is-stays : (o : Option ℤ) → TimeStays o → stays o ≡ true
-is-stays none h = refl
-is-stays (some z) h = lt-ltb (mag z) (2 ^ 63) h
+pub is-stays : (z : ℤ) → Stays z → stays z ≡ true
+is-stays z h = lt-ltb (mag z) (2 ^ 63) h
+
+-- a time, where there is one
+time-is : (o : Option ℤ) → timeStays o ≡ true → TimeStays o
+time-is none e = tt
+time-is (some z) e = stays-is z e
+
+is-time : (o : Option ℤ) → TimeStays o → timeStays o ≡ true
+is-time none h = refl
+is-time (some z) h = is-stays z h
 
 both : (a b : Bool) → (a && b) ≡ true → (a ≡ true) × (b ≡ true)
 both true b e = (refl, e)
@@ -47,11 +55,11 @@ stay-iff z starts stops = (to, from)
   where
     to : timesStay z starts stops ≡ true → TimeStays (showTime z starts) × TimeStays (hideTime z starts stops)
     to e =
-        let g = both (stays (showTime z starts)) (stays (hideTime z starts stops)) e in
-        (stays-is (showTime z starts) (g .0), stays-is (hideTime z starts stops) (g .1))
+        let g = both (timeStays (showTime z starts)) (timeStays (hideTime z starts stops)) e in
+        (time-is (showTime z starts) (g .0), time-is (hideTime z starts stops) (g .1))
 
     from : TimeStays (showTime z starts) × TimeStays (hideTime z starts stops) → timesStay z starts stops ≡ true
-    from h = rw (is-stays (showTime z starts) (h .0), is-stays (hideTime z starts stops) (h .1))
+    from h = rw (is-time (showTime z starts) (h .0), is-time (hideTime z starts stops) (h .1))
 
 -- a delay as a record holds it is what was told
 pub delayed-is : (o : Option ℕ) → delayed (given o) (delayOf o) ≡ o
@@ -61,20 +69,20 @@ delayed-is (some d) = refl
 -- ---- A sum, as the code has it
 
 -- it stays, and the machine reads it back from its bits
-sum-is : (v y : ℤ) → checked v ≡ Is y → (stays (some v) ≡ true) × (toZ w64 (ofZ w64 y) ≡ v)
+sum-is : (v y : ℤ) → checked v ≡ Is y → (stays v ≡ true) × (toZ w64 (ofZ w64 y) ≡ v)
 unfolding checked
-sum-is v y e = go (ltb (mag v) (2 ^ 63)) refl e
+sum-is v y e = go (stays v) refl e
   where
-    go : (t : Bool) → ltb (mag v) (2 ^ 63) ≡ t → pick t (Is v) Over ≡ Is y
-        → (ltb (mag v) (2 ^ 63) ≡ true) × (toZ w64 (ofZ w64 y) ≡ v)
+    go : (t : Bool) → stays v ≡ t → pick t (Is v) Over ≡ Is y
+        → (stays v ≡ true) × (toZ w64 (ofZ w64 y) ≡ v)
     go true q f = let p : y ≡ v = cc f in (q, toZ-ofZ w64 y (from-checked v y e) ∙ p)
     go false q f = let z : _≡_ {A = ℕ} 0 1 = cc f in absurd (omega arith)
 
-sum-over : (v : ℤ) → checked v ≡ Over → stays (some v) ≡ false
+sum-over : (v : ℤ) → checked v ≡ Over → stays v ≡ false
 unfolding checked
-sum-over v e = go (ltb (mag v) (2 ^ 63)) refl e
+sum-over v e = go (stays v) refl e
   where
-    go : (t : Bool) → ltb (mag v) (2 ^ 63) ≡ t → pick t (Is v) Over ≡ Over → ltb (mag v) (2 ^ 63) ≡ false
+    go : (t : Bool) → stays v ≡ t → pick t (Is v) Over ≡ Over → stays v ≡ false
     go true q f = let z : _≡_ {A = ℕ} 0 1 = cc f in absurd (omega arith)
     go false q f = q
 

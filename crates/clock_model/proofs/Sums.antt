@@ -10,7 +10,7 @@ use lib.Signed.{mag, ltZ, leZ, ltZ-yes, ltZ-no, _<ℤ_, _≤ℤ_}
 use mir.Syntax.{w64}
 use mir.Val.{SFits, toZ, ofZ}
 use mir.ValLaws.{toZ-ofZ}
-use Rattle.clock_model.specs.Sums.{checked, pick}
+use Rattle.clock_model.specs.Sums.{checked, pick, stays}
 use Rattle.clock_model.specs.declared.Num.{Num}
 use Rattle.clock_model.specs.declared.Num.the-variants.{Over, Is}
 
@@ -114,9 +114,9 @@ step-add x y r f g e = sym (e ∙ ap₂ (λ (v w : ℤ). checked (v +ℤ w)) (to
 
 pub from-checked : (z a : ℤ) → checked z ≡ Is a → SFits w64 a
 unfolding checked
-from-checked z a e = go (ltb (mag z) (2 ^ 63)) refl e
+from-checked z a e = go (stays z) refl e
   where
-    go : (t : Bool) → ltb (mag z) (2 ^ 63) ≡ t → pick t (Is z) Over ≡ Is a → SFits w64 a
+    go : (t : Bool) → stays z ≡ t → pick t (Is z) Over ≡ Is a → SFits w64 a
     go true q e = let r : z ≡ a = cc in rw (← r) (record { sfits = ltb-true (mag z) (2 ^ 63) q })
     go false q e = let z : _≡_ {A = ℕ} 0 1 = cc in absurd (omega arith)
 

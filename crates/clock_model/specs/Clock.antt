@@ -1,23 +1,22 @@
 -- Whether the times of a cue stay in signed 64 bits (FORMAT 6.7). Assumes nothing: these are definitions.
-use Prim.Native.Nat.{ℕ, _^_}
+use Prim.Native.Nat.{ℕ}
 use mathlib.Core.Bool.{Bool, true, _&&_}
 use mathlib.Core.Option.{Option, some, none}
-use lib.Dec.{ltb}
 use lib.IntN.{ℤ}
-use lib.Signed.{mag}
 use Rattle.outcome.specs.Outcome.{Res, ok, check, andThen, long-instant}
 use Rattle.grammar.specs.Record.{Told, told}
 use Rattle.grammar.specs.Times.{showTime, hideTime}
 use Rattle.grammar.specs.Picture.{ListedUnit}
+use Rattle.clock_model.specs.Sums.{stays}
 
 -- a time stays, or there is none
-abbrev pub stays : Option ℤ → Bool
-stays none = true
-stays (some z) = ltb (mag z) (2 ^ 63)
+abbrev pub timeStays : Option ℤ → Bool
+timeStays none = true
+timeStays (some z) = stays z
 
 -- both times of a cue with this start, by the delays of the first start and of the last stop
 unfoldable pub timesStay : ℤ → Option ℕ → Option ℕ → Bool
-timesStay start starts stops = stays (showTime start starts) && stays (hideTime start starts stops)
+timesStay start starts stops = timeStays (showTime start starts) && timeStays (hideTime start starts stops)
 
 -- of one whose unit's commands told t
 abbrev pub toldStay : ℤ → Told → Bool

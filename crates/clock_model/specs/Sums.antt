@@ -11,6 +11,10 @@ abbrev pub pick {ℓ} : {A : Type ℓ} → Bool → A → A → A
 pick true a b = a
 pick false a b = b
 
--- a number where it stays in signed 64 bits
+-- a number stays in signed 64 bits
+abbrev pub stays : ℤ → Bool
+stays z = ltb (mag z) (2 ^ 63)
+
+-- a number where it does
 unfoldable pub checked : ℤ → Num
-checked z = pick (ltb (mag z) (2 ^ 63)) (Is z) Over
+checked z = pick (stays z) (Is z) Over

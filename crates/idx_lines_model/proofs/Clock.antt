@@ -20,7 +20,8 @@ use Rattle.grammar.specs.IndexParts.{colon}
 use Rattle.grammar.specs.Parts.{Part}
 use Rattle.idx_numbers_model.specs.Parts.{split}
 use Rattle.idx_lines_model.specs.Answers.{fieldsFrom, headField, later, FieldAt, NextOf, fieldIn, timeAt}
-use Rattle.idx_lines_model.specs.Lines.{fields, steps, stays}
+use Rattle.clock_model.specs.Sums.{stays}
+use Rattle.idx_lines_model.specs.Lines.{fields, steps}
 use Rattle.outcome.proofs.Laws.{ok-injective}
 use Rattle.idx_numbers_model.proofs.Grammar.{never, signed-is}
 use Rattle.idx_lines_model.proofs.Grammar.{given, checked, steps-is}

@@ -1,5 +1,5 @@
 -- A line: the definition finds exactly what the grammar lists. Assumes nothing.
-use Prim.Native.Nat.{ℕ, zero, suc, _+_, _-_, _*_, _^_}
+use Prim.Native.Nat.{ℕ, zero, suc, _+_, _-_, _*_}
 use mathlib.Core.Path.{_≡_, refl, sym, ap, _∙_, subst}
 use mathlib.Core.Bool.{Bool, true, false, cond}
 use mathlib.Core.Logic.{_⊎_, inl, inr, ⊎-elim}
@@ -8,8 +8,7 @@ use mathlib.Core.List.{List, [], _∷_, _++_, append-nil, map}
 use native.Mathlib.Omega.{arith}
 use lib.ListN.{length}
 use lib.IntN.{ℤ, pos, _*ℤ_}
-use lib.Signed.{mag}
-use borrow.Author.Tests.{eq-eqb, ltb-true, lt-ltb, not-true, not-false}
+use borrow.Author.Tests.{eq-eqb, not-true, not-false}
 use Rattle.outcome.specs.Outcome.{Res, ok, andThen, need, check, no-time, no-position, bad-time, long-time, bad-position, bad-width, bad-height, bad-token}
 use Rattle.grammar.specs.Index.{Said, size, palette, timestamp, IsSize, IsToken, Tokens, Fields, field, minutes, seconds, startOf, Stays, Steps, IsFilepos, IsTimestamp, Says, SaysNothing, size-word, palette-word, timestamp-word, filepos-word, top-side, top-token, IsOtherPart}
 use Rattle.grammar.specs.IndexNumbers.{Valued, Hex}
@@ -17,8 +16,10 @@ use Rattle.grammar.specs.IndexParts.{parting, tokenByte, unlike, All, Span, Sta
 use Rattle.grammar.specs.Parts.{Part}
 use Rattle.idx_numbers_model.specs.Numbers.{unsigned, signed, bare, hex, orElse, positionOf}
 use Rattle.idx_numbers_model.specs.Parts.{part, valued, front, rest, trim, split, strip, after, found}
-use Rattle.idx_lines_model.specs.Lines.{Two, halved, halves, sizeOr, consWith, tokenAnd, tokens, fields, stays, steps, firstOf, lastOf, isFilepos, timestampAt, byWord, lineOf, isOther, partsAt, positionAt}
+use Rattle.idx_lines_model.specs.Lines.{Two, halved, halves, sizeOr, consWith, tokenAnd, tokens, fields, steps, firstOf, lastOf, isFilepos, timestampAt, byWord, lineOf, isOther, partsAt, positionAt}
+use Rattle.clock_model.specs.Sums.{stays}
 use Rattle.outcome.proofs.Laws.{ok-injective, ok-not-refuse, check-ok, and-true}
+use Rattle.clock_model.proofs.Clock.{stays-is, is-stays}
 use Rattle.idx_numbers_model.proofs.Grammar.{never, same-part, span-is, span-one, trim-is, trim-one, split-is, split-one, strip-on, strip-is, strip-none, none-strip, after-iff, unsigned-is, unsigned-one, signed-is, signed-one, hex-iff, position-iff, trims-is, trims-one}
 use Rattle.idx_numbers_model.proofs.Steps.{other-false}
 
@@ -179,9 +180,6 @@ fields-one (suc n) (p ∷ ps) [] h = absurd h
 fields-one (suc n) (p ∷ ps) (f ∷ fs) h =
     rw (signed-one (p .bytes) (f .value) (h .1), fields-one n ps fs (h .2), ← h .0)
 
-stays-is : (z : ℤ) → stays z ≡ true → Stays z
-stays-is z e = ltb-true (mag z) (2 ^ 63) e
-
 pub steps-is : (fs : List (Valued ℤ)) → steps fs ≡ true → Steps fs
 unfolding steps
 steps-is fs e =
@@ -204,7 +202,15 @@ steps-is fs e =
 pub steps-one : (fs : List (Valued ℤ)) → Steps fs → steps fs ≡ true
 unfolding steps
 steps-one fs h =
-    rw (lt-ltb _ _ (h .hours), lt-ltb _ _ (h .to-minutes), lt-ltb _ _ (h .sixty), lt-ltb _ _ (h .to-seconds), lt-ltb _ _ (h .million), lt-ltb _ _ (h .millis), lt-ltb _ _ (h .start))
+    rw (
+      is-stays (field 0 fs *ℤ pos 60) (h .hours),
+      is-stays (minutes fs) (h .to-minutes),
+      is-stays (minutes fs *ℤ pos 60) (h .sixty),
+      is-stays (seconds fs) (h .to-seconds),
+      is-stays (seconds fs *ℤ pos 1000000) (h .million),
+      is-stays (field 3 fs *ℤ pos 1000) (h .millis),
+      is-stays (startOf fs) (h .start),
+    )
 
 -- a test that tells whether P holds
 module _ (P : Part → Type 0) (t : Part → Bool) (yes-P : (p : Part) → t p ≡ true → P p) (no-P : (p : Part) → t p ≡ false → P p → ⊥) where

@@ -1,18 +1,17 @@
 -- What a trimmed line of the index text says, found: a listed line, nothing, or the number of the refusal (FORMAT 1.2 to 1.8).
 -- What is asked first refuses first. Assumes nothing: these are definitions.
-use Prim.Native.Nat.{ℕ, zero, suc, _+_, _^_}
+use Prim.Native.Nat.{ℕ, zero, suc, _+_}
 use mathlib.Core.Bool.{Bool, not, cond, _&&_}
 use mathlib.Core.Option.{Option, some, none}
 use mathlib.Core.List.{List, [], _∷_, map}
 use lib.ListN.{length}
-use lib.Dec.{ltb}
 use lib.IntN.{ℤ, pos, _*ℤ_}
-use lib.Signed.{mag}
 use Rattle.outcome.specs.Outcome.{Res, ok, check, need, andThen, bad-width, bad-height, bad-token, no-time, no-position, bad-time, long-time, bad-position}
 use Rattle.grammar.specs.Parts.{Part}
 use Rattle.grammar.specs.IndexParts.{parting, tokenByte, unlike, comma, colon, letter-x}
 use Rattle.grammar.specs.IndexNumbers.{Valued}
 use Rattle.grammar.specs.Index.{Said, size, palette, timestamp, size-word, palette-word, timestamp-word, filepos-word, top-side, top-token, field, minutes, seconds, startOf}
+use Rattle.clock_model.specs.Sums.{stays}
 use Rattle.idx_numbers_model.specs.Parts.{part, valued, front, rest, trim, split, after, starts}
 use Rattle.idx_numbers_model.specs.Numbers.{unsigned, signed, hex, orElse, positionOf}
 
@@ -68,9 +67,6 @@ unfoldable pub fields : ℕ → List Part → Option (List (Valued ℤ))
 fields zero ps = some []
 fields (suc n) [] = some []
 fields (suc n) (p ∷ ps) = consWith p (signed (p .bytes)) (fields n ps)
-
-abbrev pub stays : ℤ → Bool
-stays z = ltb (mag z) (2 ^ 63)
 
 unfoldable pub steps : List (Valued ℤ) → Bool
 steps fs =

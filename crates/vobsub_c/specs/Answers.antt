@@ -2,7 +2,7 @@
 -- the last content of all that was lent. Assumes nothing: these are definitions.
 use Prim.Native.Nat.{ℕ, _*_}
 use mathlib.Core.Path.{_≡_}
-use mathlib.Core.List.{List, []}
+use mathlib.Core.List.{List, [], _∷_}
 use mathlib.Core.Logic.{_↔_}
 use mathlib.Core.Option.{some}
 use mathlib.Core.Bool.{cond}
@@ -29,7 +29,7 @@ use Rattle.rle_model.specs.declared.Counts.{Counts}
 use Rattle.rle_model.specs.declared.FieldAnswer.{FieldAnswer}
 use Rattle.rle_model.specs.declared.FieldAnswer.the-variants as field-answer
 use Rattle.idx_model.specs.Text.{idxOf}
-use Rattle.idx_model.specs.Answers.{idxWith, idxAnswer, startsOf, positionsOf, pickOf, cueAnswer}
+use Rattle.idx_model.specs.Answers.{idxWith, idxAnswer, startsOf, positionsOf, orZero, pickOf, cueAnswer}
 use Rattle.idx_model.specs.declared.IdxAnswer.{IdxAnswer}
 use Rattle.idx_model.specs.declared.CueAnswer.{CueAnswer}
 use Rattle.demo_model.specs.Unit.{demoAt}
@@ -41,10 +41,12 @@ use Rattle.spu_model.specs.Unit.{unitIn}
 use Rattle.spu_model.specs.Answers.{spuAnswer, unitMap, unitBands}
 use Rattle.spu_model.specs.declared.SpuAnswer.{SpuAnswer}
 use Rattle.spu_model.specs.declared.SpuAnswer.the-variants as spu-answer
-use Rattle.grammar.specs.Reading.{Wanted, wantedId, Reading, IsReading}
+use Rattle.grammar.specs.Record.{given}
+use Rattle.grammar.specs.Reading.{Wanted, wantedId, Reading, IsReading, shown}
+use Rattle.clock_model.specs.Answers.{timeOr0}
 use Rattle.vobsub_model.specs.Call.{Lent, foundFor, readingIn}
 use Rattle.vobsub_model.specs.Answers.{canvasAnswer, scratchOf, pixelsOf, bandsOf, paintedOf}
-use Rattle.vobsub_model.specs.Claim.{Exactly}
+use Rattle.vobsub_model.specs.Claim.{Room, Exactly}
 use Rattle.vobsub_model.specs.declared.CanvasAnswer.{CanvasAnswer}
 use Rattle.vobsub_model.specs.declared.CanvasAnswer.the-variants as canvas-answer
 use Rattle.vobsub_numbers.specs.Numbers.{spuNumbers, idxNumbers, cueNumbers, shownNumbers, shownTimes}
@@ -208,7 +210,15 @@ abbrev pub canvasTimes : CanvasAnswer → List ℤ → List ℤ
 canvasTimes (canvas-answer.Paints s) before = shownTimes s
 canvasTimes (canvas-answer.Refused k) before = before
 
--- the answer with its numbers, what the four buffers hold, and the call's claim on whole files
+-- the times and the numbers are the reading's, each at its place in include/vobsub.h (FORMAT 6.5)
+pub record ReadingTold (x : Reading) (times : List ℤ) (numbers : List ℕ) : Type 0 where
+  pub times-are : times ≡ shown x .start ∷ timeOr0 (shown x .show) ∷ timeOr0 (shown x .hide) ∷ []
+  pub numbers-are : numbers
+      ≡ cond (given (shown x .duration)) 1 0 ∷ orZero (shown x .duration) ∷ shown x .start-delay ∷ shown x .stop-delay
+      ∷ shown x .x1 ∷ shown x .y1 ∷ shown x .width ∷ shown x .height ∷ shown x .codes ∷ shown x .clipped
+      ∷ cond (shown x .started) 1 0 ∷ cond (shown x .stopped) 1 0 ∷ cond (given (shown x .hide)) 1 0 ∷ []
+
+-- the answer with its numbers, what the four buffers hold, and the call's claim on whole files, for what is told too
 pub record CueDecoded (text file : List ℕ) (q : Wanted) (b : Lent) (times : List ℤ) (numbers : List ℕ) (r : ℕ) (b′ : Lent) (times′ : List ℤ) (numbers′ : List ℕ) : Type 0 where
   pub refusal : r ≡ canvasRefusal (canvasAnswer (readingIn text file q b))
   pub returned : Returned (readingIn text file q b) r
@@ -219,6 +229,7 @@ pub record CueDecoded (text file : List ℕ) (q : Wanted) (b : Lent) (times : Li
   pub in-words : b′ .words ≡ sets (b .words) 0 (bandsOf (readingIn text file q b))
   pub in-canvas : b′ .canvas ≡ sets (b .canvas) 0 (paintedOf (readingIn text file q b))
   pub exactly : Exactly text file q b (canvasAnswer (readingIn text file q b)) b′
+  pub reading-told : (x : Reading) → IsReading text file q x → Room x b → ReadingTold x times′ numbers′
 
 -- two files give a cue the same readings, and two calls return and leave the same
 pub record SameDecoded (text file other : List ℕ) (q : Wanted) (r t : ℕ) (b c : Lent) (times times′ : List ℤ) (numbers numbers′ : List ℕ) : Type 0 where

@@ -12,6 +12,7 @@ use Rattle.vobsub_model.specs.declared.CanvasAnswer.{CanvasAnswer}
 use Rattle.vobsub_c.specs.Answers.{canvasRefusal, canvasTimes, canvasRecord, CueDecoded, CueUndisturbed}
 use Rattle.vobsub_c.proofs.Returned.{canvas-returned}
 use Rattle.vobsub_c.proofs.Streams.{cue-kept}
+use Rattle.vobsub_c.proofs.Told.{told-reading}
 use Rattle.vobsub_c.proofs.vobsub_decode_cue.Statement.{statement}
 use Rattle.vobsub_c.proofs.vobsub_decode_cue.Tie as tie
 
@@ -21,16 +22,19 @@ given : (t f : List ℕ) (w : Wanted) (b b′ : Lent) (zs zs′ : List ℤ) (ns 
     → CueDecoded t f w b zs ns (canvasRefusal d) b′ zs′ ns′ × CueUndisturbed t f w b zs ns (canvasRefusal d) b′ zs′ ns′
 given t f w b b′ zs zs′ ns ns′ a d e q x k h =
     let y = sym e ∙ q .answer in
+    let k′ = k ∙ ap (λ (o : CanvasAnswer). canvasTimes o zs) y in
+    let h′ = h ∙ ap (λ (o : CanvasAnswer). canvasRecord o ns) y in
     cue-kept t f w b zs ns _ b′ zs′ ns′ (record {
       refusal = ap canvasRefusal y;
       returned = canvas-returned t f w b _ (ap canvasRefusal y);
-      timed = k ∙ ap (λ (o : CanvasAnswer). canvasTimes o zs) y;
-      told = h ∙ ap (λ (o : CanvasAnswer). canvasRecord o ns) y;
+      timed = k′;
+      told = h′;
       in-scratch = q .in-scratch;
       in-pixels = q .in-pixels;
       in-words = q .in-words;
       in-canvas = q .in-canvas;
       exactly = subst (λ (o : CanvasAnswer). Exactly t f w b o b′) (q .answer) x;
+      reading-told = told-reading t f w b zs zs′ ns ns′ k′ h′;
     })
 
 -- ---- Where the call has answered
