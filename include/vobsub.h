@@ -2,7 +2,8 @@
    means and the order in which they are tried are in docs/FORMAT.md, section 9 (`refusals` in crates/outcome).
 
    A pointer that has a length beside it may be null where that length is 0. Where it is said how much stack a function takes, a thread whose
-   stack is sized to that figure needs 5 KiB more, for what the C library keeps there: 4,464 bytes with glibc 2.36 (bench/stack/run). */
+   stack is sized to that figure needs 8 KiB more, for the C library: with glibc 2.36 it keeps 4,464 bytes there, and takes 3,040 more where a
+   first call of memset or memcpy is bound (bench/stack/run). */
 #ifndef VOBSUB_H
 #define VOBSUB_H
 
@@ -13,12 +14,18 @@
 extern "C" {
 #endif
 
-/* Reads the colour bands in payload, the payload_len bytes after a colour change's size word, and stores them as words from words[at] on.
-   words has words_len words, and at may be any number. *count is set to the number of words stored; count is not null, and the three
-   regions do not overlap. On a refusal (19, 23) words and *count are as they were. */
+/* Words of the colour bands of a unit or of a payload, which has at most 32 of them, each with at most 15 entries. A band is 3 words, its first
+   line, its last line and the number of its entries, and 3 more for each entry: its column, its four selectors and its four alphas (colour 0
+   in the top nibble). */
+enum { VOBSUB_BANDS = 1536 };
+
+/* Reads the colour bands in payload, the payload_len bytes after a colour change's size word. bands has VOBSUB_BANDS words, and all of them are
+   written: the words of the bands, one band after the other, and 0 after them. *count is set to the number of words that the bands take. bands
+   and count are not null, and the three regions do not overlap. On a refusal (19, then 34, more than 32 bands) bands and *count are as they
+   were. It takes up to 4 KiB of stack. */
 uint8_t vobsub_parse_chg_colcon_payload(const uint8_t *payload, size_t payload_len,
-                                        uint16_t *words, size_t words_len,
-                                        size_t at, size_t *count);
+                                        uint16_t bands[VOBSUB_BANDS],
+                                        size_t *count);
 
 /* Finds the unit of a stream at position of file, which has file_len bytes; position and stream may be any numbers. Streams are numbered 0 to 31,
    and of the packets those count whose body starts with 0x20 + stream; a bare unit is found for each of them. A unit that packets hold is joined
@@ -62,13 +69,14 @@ enum vobsub_number {
 };
 
 /* Decodes a unit, the unit_len bytes from its length word on. Its picture goes to the front of pixels, which has pixels_len bytes, one byte a
-   pixel, row after row; its bands go to the front of words, which has words_len words; numbers has VOBSUB_NUMBERS numbers, and gets those of
-   the record. numbers is not null, and the four regions do not overlap. Of pixels the first (x2 - x1 + 1) * (y2 - y1 + 1) bytes are written,
-   of words as many as numbers[VOBSUB_BAND_WORDS] says; on a refusal (15 to 23, 25, 26) all three are as they were. It takes up to 257 KiB of
-   stack. */
+   pixel, row after row; bands has VOBSUB_BANDS words, and gets the bands of all its colour changes in the order in which they are read, at
+   most 32; numbers has VOBSUB_NUMBERS numbers, and gets those of the record. bands and numbers are not null, and the four regions do not
+   overlap. Of pixels the first (x2 - x1 + 1) * (y2 - y1 + 1) bytes are written, of bands all: as many words as numbers[VOBSUB_BAND_WORDS]
+   says, and 0 after them. On a refusal (15 to 21, then 34, more than 32 bands, then 22, 25, 26) all three are as they were. It takes up to 263
+   KiB of stack. */
 uint8_t vobsub_parse_and_decode_spu(const uint8_t *unit, size_t unit_len,
                                     uint8_t *pixels, size_t pixels_len,
-                                    uint16_t *words, size_t words_len,
+                                    uint16_t bands[VOBSUB_BANDS],
                                     size_t numbers[VOBSUB_NUMBERS]);
 
 /* Places of the numbers of an index text: the size, 0 where none is given, whether a palette is given (1) or none (0), how many cues there are. */
@@ -140,19 +148,18 @@ enum vobsub_shown_number {
 /* Paints one cue of a title: text has the text_len bytes of its .idx file, file the file_len bytes of its .sub file; cues are numbered from 0,
    and cue may be any number; so may stream, and 0 to 31 are streams, as for vobsub_extract_spu. The canvas goes to the front of canvas, which has
    canvas_len bytes: red, green, blue and alpha of each pixel, row after row. The picture as colour numbers goes to the front of pixels, which has
-   pixels_len bytes; its bands go to the front of words, which has words_len words; a unit that packets hold is joined in the front of scratch,
-   which has scratch_len bytes. times has VOBSUB_TIMES numbers, and gets the cue's times; numbers has VOBSUB_SHOWN_NUMBERS numbers, and gets those
-   of the cue. times and numbers are not null, and the eight regions do not overlap. Of canvas 4 * width * height bytes are written, of pixels
-   width * height, of words and scratch as many as the bands and the joined unit take. On a refusal (1 to 9, then 32, then 11 to 26, then 33, where
-   a time that there is does not fit int64_t) all are as they were, but that after 15 to 26 and 33 a unit that packets hold is in the front of
-   scratch. A text of no bytes has cue 0, at the front of file, painted in greys as for vobsub_parse_idx. A unit has 65535 bytes at most, a picture
-   4096 by 4096 pixels. It takes up to 262 KiB of stack. */
+   pixels_len bytes; a unit that packets hold is joined in the front of scratch, which has scratch_len bytes. times has VOBSUB_TIMES numbers, and
+   gets the cue's times; numbers has VOBSUB_SHOWN_NUMBERS numbers, and gets those of the cue. times and numbers are not null, and the seven
+   regions do not overlap. Of canvas 4 * width * height bytes are written, of pixels width * height, of scratch as many as the joined unit takes.
+   On a refusal (1 to 9, then 32, then 11 to 21, then 34, more than 32 bands, then 22, 24, 25, 26, then 33, where a time that there is does not fit
+   int64_t) all are as they were, but that after those behind 14 a unit that packets hold is in the front of scratch. A text of no bytes has cue 0,
+   at the front of file, painted in greys as for vobsub_parse_idx. A unit has 65535 bytes at most, a picture 4096 by 4096 pixels. It takes up to
+   264 KiB of stack. */
 uint8_t vobsub_decode_cue(const uint8_t *text, size_t text_len,
                           const uint8_t *file, size_t file_len,
                           size_t cue, size_t stream,
                           uint8_t *scratch, size_t scratch_len,
                           uint8_t *pixels, size_t pixels_len,
-                          uint16_t *words, size_t words_len,
                           uint8_t *canvas, size_t canvas_len,
                           int64_t times[VOBSUB_TIMES],
                           uint64_t numbers[VOBSUB_SHOWN_NUMBERS]);

@@ -1,7 +1,7 @@
 // Takes the original from beside the repository (or from the folder that VOBSUB_ORIGINAL names) into the build's own
 // folder: private items opened, and an adapter appended. Nothing else is changed, but in the copies that are meant to
-// differ: one that counts codes and clipped codes and says whether a start and a stop stood, and, with the feature
-// `mutants`, one for each line of mutants.txt, of the original, of src/empty.rs or of src/times.rs.
+// differ: one that counts codes, clipped codes and bands and says whether a start and a stop stood, and, with the feature
+// `mutants`, one for each line of mutants.txt, of the original, of src/empty.rs, of src/limit.rs or of src/times.rs.
 use std::env;
 use std::fs;
 use std::path::{Path, PathBuf};
@@ -52,15 +52,19 @@ fn changed(text: &str, function: &str, token: &str, nth: usize, by: &str) -> Str
 }
 
 // What the counting copy has more than the original: the function, the token, what stands in its place. The commands 00
-// and 01 are starts, 02 is a stop. Every turn of the field decoder's loop reads one code. It is clipped where its run
-// passes the width and its count is not 0, which is that of a fill. The two last counts are not compared; they tell what
-// requests meet.
+// and 01 are starts, 02 is a stop. A band is counted where it joins those of its payload, so that one of a payload that is
+// read twice counts twice. Every turn of the field decoder's loop reads one code. It is clipped where its run passes the
+// width and its count is not 0, which is that of a fill. What of entries, of changes and by the two last lines is counted
+// is not compared; it tells what requests meet.
 const UNIT: &str = "parse_and_decode_spu";
 const FIELD: &str = "decode_rle_field";
-const COUNTING: [(&str, &str, &str); 7] = [
+const PAYLOAD: &str = "parse_chg_colcon_payload";
+const COUNTING: [(&str, &str, &str); 9] = [
     (UNIT, "0x00 => {", "0x00 => { crate::count(|c| c.started = true);"),
     (UNIT, "0x01 => {", "0x01 => { crate::count(|c| c.started = true);"),
     (UNIT, "0x02 => {", "0x02 => { crate::count(|c| c.stopped = true);"),
+    (UNIT, "out.chg_colcon.extend(bands)", "crate::count(|c| c.change(cmd_pos, bands.len())); out.chg_colcon.extend(bands)"),
+    (PAYLOAD, "bands.push(", "crate::count(|c| c.bands += 1); crate::count(|c| c.entries += entries.len()); bands.push("),
     (FIELD, "while row < height {", "while row < height { crate::count(|c| c.codes += 1);"),
     (FIELD, "let end =", "if count != 0 && col + run > width { crate::count(|c| c.clipped += 1); } let end ="),
     (FIELD, "let end =", "if count != 0 && col + run == width { crate::count(|c| c.exact += 1); } let end ="),
@@ -81,7 +85,7 @@ fn main() {
     let path = folder.join("src/vobsub.rs");
     let library = repository.join("target/staticlib");
     println!("cargo:rerun-if-env-changed=VOBSUB_ORIGINAL");
-    let own = ["mutants.txt", "src/adapter.rs", "src/empty.rs", "src/times.rs"].map(|file| here.join(file));
+    let own = ["mutants.txt", "src/adapter.rs", "src/empty.rs", "src/limit.rs", "src/times.rs"].map(|file| here.join(file));
     for file in own.iter().chain([&path, &library.join("libvobsub_c.a")]) {
         println!("cargo:rerun-if-changed={}", file.display());
     }
@@ -97,6 +101,7 @@ fn main() {
     modules += &write(&out, "counting", &counting, &adapter);
 
     let empty = fs::read_to_string(here.join("src/empty.rs")).expect("empty.rs");
+    let limit = fs::read_to_string(here.join("src/limit.rs")).expect("limit.rs");
     let times = fs::read_to_string(here.join("src/times.rs")).expect("times.rs");
     modules += "pub const MUTANTS: &[(&str, crate::side::Side)] = &[\n";
     let mut mutants = String::new();
@@ -112,6 +117,7 @@ fn main() {
                     (&counting, function, &adapter[..], format!("crate::side::Side {{ counting: {name}::adapter::COUNTING, ..original::adapter::SIDE }}"))
                 }
                 Some(("empty", function)) => (&empty, function, "", format!("crate::side::Side {{ empty: {name}::EMPTY, ..original::adapter::SIDE }}")),
+                Some(("limit", function)) => (&limit, function, "", format!("crate::side::Side {{ limit: {name}::LIMIT, ..original::adapter::SIDE }}")),
                 Some(("times", function)) => (&times, function, "", format!("crate::side::Side {{ times: {name}::TIMES, ..original::adapter::SIDE }}")),
                 Some(_) => panic!("a line of mutants.txt: {line}"),
             };

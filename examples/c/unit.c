@@ -9,16 +9,19 @@
 #include "vobsub.h"
 
 /* two languages, each a unit in two packets: stream 0 has the id 0x20 before its bytes, stream 1 has 0x21; the last code
-   of stream 1, 0xD, names three pixels in a row of two, and its second block stops the display after 0x64 ticks */
+   of stream 1, 0xD, names three pixels in a row of two, its colour change, 0x07, gives line 2 other colours from column 1
+   on, and its second block stops the display after 0x64 ticks */
 static const uint8_t own[] = {
     0x00, 0x00, 0x01, 0xBD, 0x00, 0x11, 0x80, 0x00, 0x00, 0x20,
     0x00, 0x21, 0x00, 0x09, 0x00, 0x01, 0x60, 0x00, 0x30, 0x00, 0x00, 0x00, 0x09,
     0x00, 0x00, 0x01, 0xBD, 0x00, 0x17, 0x80, 0x00, 0x00, 0x21,
-    0x00, 0x27, 0x00, 0x09, 0x70, 0x00, 0x20, 0xD0, 0x00, 0x00, 0x00, 0x00, 0x21, 0x03, 0x01, 0x32, 0x04, 0x0F, 0xFF,
+    0x00, 0x34, 0x00, 0x09, 0x70, 0x00, 0x20, 0xD0, 0x00, 0x00, 0x00, 0x00, 0x2E, 0x03, 0x01, 0x32, 0x04, 0x0F, 0xFF,
     0x00, 0x00, 0x01, 0xBD, 0x00, 0x18, 0x80, 0x00, 0x00, 0x20,
     0x03, 0x01, 0x32, 0x04, 0x0F, 0xFF, 0x05, 0x00, 0x00, 0x01, 0x00, 0x00, 0x01, 0x06, 0x00, 0x04, 0x00, 0x06, 0x01, 0xFF,
-    0x00, 0x00, 0x01, 0xBD, 0x00, 0x18, 0x80, 0x00, 0x00, 0x21,
-    0x05, 0x00, 0x00, 0x01, 0x00, 0x20, 0x03, 0x06, 0x00, 0x04, 0x00, 0x07, 0x01, 0xFF, 0x00, 0x64, 0x00, 0x21, 0x02, 0xFF,
+    0x00, 0x00, 0x01, 0xBD, 0x00, 0x25, 0x80, 0x00, 0x00, 0x21,
+    0x05, 0x00, 0x00, 0x01, 0x00, 0x20, 0x03, 0x06, 0x00, 0x04, 0x00, 0x07,
+    0x07, 0x00, 0x0C, 0x00, 0x02, 0x10, 0x02, 0x00, 0x01, 0x01, 0x21, 0x0F, 0x8F,
+    0x01, 0xFF, 0x00, 0x64, 0x00, 0x2E, 0x02, 0xFF,
 };
 
 /* the index text of the title whose file is the packets above */
@@ -27,9 +30,9 @@ static const char index_text[] =
     "palette: 000000, ff0000, 00ff00, 0000ff\n"
     "timestamp: 00:00:01:000, filepos: 0\n";
 
-/* as long as any unit, as large as any picture, and more words than a unit without overlapping blocks has */
+/* as long as any unit, and as large as any picture */
 static uint8_t scratch[65535], pixels[4096 * 4096];
-static uint16_t bands[65536];
+static uint16_t bands[VOBSUB_BANDS];
 
 /* The line of a cue in one stream of the packets above under an index text, with the number of its clipped codes; when it
    is shown and hidden; and its pixels as red, green, blue and alpha. */
@@ -41,7 +44,7 @@ static void paint(const char *text, size_t text_len, size_t cue, size_t stream)
     size_t i, x, y;
 
     refusal = vobsub_decode_cue((const uint8_t *)text, text_len, own, sizeof own, cue, stream, scratch, sizeof scratch,
-                                pixels, sizeof pixels, bands, sizeof bands / sizeof bands[0], canvas, sizeof canvas, times, numbers);
+                                pixels, sizeof pixels, canvas, sizeof canvas, times, numbers);
     printf("%sstream %zu, cue %zu: ", text_len == 0 ? "empty index, " : "", stream, cue);
     if (refusal != 0) {
         printf("refused %u\n", refusal);
@@ -97,7 +100,7 @@ static int list(const uint8_t *file, size_t file_len, size_t position, size_t st
 {
     const uint8_t *unit;
     uint8_t joined, refusal;
-    size_t length, width, height, i, x, y, numbers[VOBSUB_NUMBERS];
+    size_t length, width, height, i, next, x, y, numbers[VOBSUB_NUMBERS];
 
     refusal = vobsub_extract_spu(file, file_len, position, stream, scratch, sizeof scratch, &length, &joined);
     printf("stream %zu: ", stream);
@@ -108,7 +111,7 @@ static int list(const uint8_t *file, size_t file_len, size_t position, size_t st
     unit = joined ? scratch : file + position;
     printf("%zu bytes, %s\n", length, joined ? "joined from packets" : "bare");
 
-    refusal = vobsub_parse_and_decode_spu(unit, length, pixels, sizeof pixels, bands, sizeof bands / sizeof bands[0], numbers);
+    refusal = vobsub_parse_and_decode_spu(unit, length, pixels, sizeof pixels, bands, numbers);
     if (refusal != 0) {
         printf("refused %u\n", refusal);
         return 1;
@@ -121,8 +124,12 @@ static int list(const uint8_t *file, size_t file_len, size_t position, size_t st
         printf("starts after %zu%s\n", numbers[VOBSUB_START_DELAY_RAW], numbers[VOBSUB_FORCED_DISPLAY] ? ", forced" : "");
     if (numbers[VOBSUB_STOPPED])
         printf("stops after %zu\n", numbers[VOBSUB_STOP_DELAY_RAW]);
-    for (i = 0; i < numbers[VOBSUB_BAND_WORDS]; i += 3 + 3 * (size_t)bands[i + 2])
-        printf("lines %u to %u: %u entries\n", bands[i], bands[i + 1], bands[i + 2]);
+    for (i = 0; i < numbers[VOBSUB_BAND_WORDS]; i = next) {
+        next = i + 3 + 3 * (size_t)bands[i + 2];
+        printf("lines %u to %u\n", bands[i], bands[i + 1]);
+        for (i += 3; i < next; i += 3)
+            printf("    from column %u: selectors %04X, alphas %04X\n", bands[i], bands[i + 1], bands[i + 2]);
+    }
     printf("%zu codes, %zu clipped\n", numbers[VOBSUB_CODES], numbers[VOBSUB_CLIPPED]);
     if (width <= 100) {
         for (y = 0; y < height; y++) {

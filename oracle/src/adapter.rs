@@ -117,7 +117,7 @@ pub mod adapter {
         parse_idx(text).map(|idx| idx.cues.iter().map(|c| c.1 as usize).collect()).unwrap_or_default()
     }
 
-    pub const COUNTING: Counting = Counting { field, unit };
+    pub const COUNTING: Counting = Counting { bands, field, unit };
     pub const SIDE: Side = Side {
         pes_body,
         spot,
@@ -131,6 +131,7 @@ pub mod adapter {
         write: build_demo_spu,
         counting: crate::counting::adapter::COUNTING,
         empty: crate::empty::EMPTY,
+        limit: crate::limit::LIMIT,
         times: crate::times::TIMES,
     };
 }

@@ -92,6 +92,8 @@ pub struct Class {
     pub refusals: &'static [u8],
     // What else they must meet, 300 times at least.
     pub met: &'static [&'static str],
+    // And what in as many requests as the short run generates, or more.
+    pub rarer: &'static [&'static [&'static str]],
     // Whether a quarter of the generated requests must be accepted by both sides.
     pub accepted: bool,
     // What the number of generated requests is divided by: fewer of those that take long.

@@ -2,6 +2,7 @@
 pub mod classes;
 pub mod class;
 pub mod empty;
+pub mod limit;
 pub mod oxideav_core;
 pub mod port;
 pub mod random;
@@ -30,6 +31,14 @@ pub struct Counts {
     pub exact: usize,
     // Fills whose number, divided by 4, is above what was left.
     pub long_fills: usize,
+    // Bands of all payloads read; those of a payload that is read twice count twice.
+    pub bands: usize,
+    // Their entries.
+    pub entries: usize,
+    // Changes with a band, and whether one was read at a place that another had passed, as blocks that overlap do.
+    pub changes: usize,
+    pub again: bool,
+    furthest: usize,
 }
 
 pub const CLIPPED: &str = "accepted, with a clipped code";
@@ -37,7 +46,33 @@ pub const EXACT: &str = "accepted, with a code exactly as long as what is left o
 pub const LONG_FILL: &str = "accepted, with a fill whose v/4 is above what is left of its row";
 
 impl Counts {
-    const NONE: Counts = Counts { started: false, stopped: false, codes: 0, clipped: 0, exact: 0, long_fills: 0 };
+    const NONE: Counts = Counts {
+        started: false,
+        stopped: false,
+        codes: 0,
+        clipped: 0,
+        exact: 0,
+        long_fills: 0,
+        bands: 0,
+        entries: 0,
+        changes: 0,
+        again: false,
+        furthest: 0,
+    };
+
+    // A change is read: its place, and how many bands it has.
+    pub fn change(&mut self, place: usize, bands: usize) {
+        if bands > 0 {
+            self.changes += 1;
+            self.again |= place <= self.furthest;
+            self.furthest = self.furthest.max(place);
+        }
+    }
+
+    // The words that the bands take.
+    pub fn words(self) -> usize {
+        3 * (self.bands + self.entries)
+    }
 
     // What an accepted request with these counts is counted for.
     pub fn met(self) -> impl Iterator<Item = &'static str> {

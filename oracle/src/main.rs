@@ -19,6 +19,9 @@ oracle --ask CLASS HEX [N N N N]
 
 Exit status 1 where the two sides differ, where a class is too thin, or where a wrong copy is not noticed.";
 
+// Generated requests a class in the short run.
+const COUNT: u64 = 400_000;
+
 // A panic of the original is a difference too, but where a rule says that the original was not followed.
 fn differs(o: &Outcome) -> Option<String> {
     o.differs.clone().or_else(|| o.panicked.clone().filter(|_| o.rule.is_none()).map(|words| format!("the original panicked: {words}")))
@@ -104,7 +107,8 @@ impl Tally {
                     whole = false;
                 }
             }
-            for what in class.met {
+            let rarer = class.rarer.iter().copied().flatten().filter(|_| self.generated >= COUNT / class.dear);
+            for what in class.met.iter().chain(rarer) {
                 let met = self.met_generated.get(what).copied().unwrap_or(0);
                 if met < 300 {
                     println!("    THIN: met {met} times in the generated: {what}");
@@ -122,7 +126,7 @@ impl Tally {
 
 fn main() {
     let mut words = std::env::args().skip(1);
-    let (mut seed, mut seconds, mut count, mut one, mut only, mut mutants) = (None, None, 400_000u64, None, None, false);
+    let (mut seed, mut seconds, mut count, mut one, mut only, mut mutants) = (None, None, COUNT, None, None, false);
     while let Some(word) = words.next() {
         let mut number = || words.next().and_then(|w| w.parse::<u64>().ok()).unwrap_or_else(|| usage());
         match word.as_str() {

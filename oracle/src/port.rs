@@ -8,6 +8,9 @@ pub const BAND_WORDS: usize = 14;
 pub const CODES: usize = 15;
 pub const CLIPPED: usize = 16;
 
+// Words of the bands of a unit or of a payload.
+pub const BANDS: usize = 1536;
+
 // Places of the numbers of an index text, and of those of a cue.
 pub const INDEX_NUMBERS: usize = 4;
 pub const WIDTH: usize = 0;
@@ -30,9 +33,9 @@ pub const SHOWN_NUMBERS: usize = 13;
 unsafe extern "C" {
     fn vobsub_parse_pes_body(pes: *const u8, pes_len: usize, body: *mut usize) -> u8;
     fn vobsub_extract_spu(file: *const u8, file_len: usize, position: usize, stream: usize, scratch: *mut u8, scratch_len: usize, length: *mut usize, joined: *mut u8) -> u8;
-    fn vobsub_parse_chg_colcon_payload(payload: *const u8, payload_len: usize, words: *mut u16, words_len: usize, at: usize, count: *mut usize) -> u8;
+    fn vobsub_parse_chg_colcon_payload(payload: *const u8, payload_len: usize, bands: *mut u16, count: *mut usize) -> u8;
     fn vobsub_decode_rle_field(field: *const u8, field_len: usize, width: usize, height: usize, start_row: usize, pixels: *mut u8, pixels_len: usize, codes: *mut usize, clipped: *mut usize) -> u8;
-    fn vobsub_parse_and_decode_spu(unit: *const u8, unit_len: usize, pixels: *mut u8, pixels_len: usize, words: *mut u16, words_len: usize, numbers: *mut usize) -> u8;
+    fn vobsub_parse_and_decode_spu(unit: *const u8, unit_len: usize, pixels: *mut u8, pixels_len: usize, bands: *mut u16, numbers: *mut usize) -> u8;
     fn vobsub_parse_idx(text: *const u8, text_len: usize, starts: *mut i64, starts_len: usize, positions: *mut u64, positions_len: usize, palette: *mut u8, numbers: *mut usize) -> u8;
     fn vobsub_pick_cue(text: *const u8, text_len: usize, cue: usize, start: *mut i64, palette: *mut u8, numbers: *mut u64) -> u8;
     fn vobsub_decode_cue(
@@ -46,8 +49,6 @@ unsafe extern "C" {
         scratch_len: usize,
         pixels: *mut u8,
         pixels_len: usize,
-        words: *mut u16,
-        words_len: usize,
         canvas: *mut u8,
         canvas_len: usize,
         times: *mut i64,
@@ -64,16 +65,16 @@ pub fn extract_spu(file: &[u8], position: usize, stream: usize, scratch: &mut [u
     unsafe { vobsub_extract_spu(file.as_ptr(), file.len(), position, stream, scratch.as_mut_ptr(), scratch.len(), length, joined) }
 }
 
-pub fn bands(payload: &[u8], words: &mut [u16], at: usize, count: &mut usize) -> u8 {
-    unsafe { vobsub_parse_chg_colcon_payload(payload.as_ptr(), payload.len(), words.as_mut_ptr(), words.len(), at, count) }
+pub fn bands(payload: &[u8], bands: &mut [u16; BANDS], count: &mut usize) -> u8 {
+    unsafe { vobsub_parse_chg_colcon_payload(payload.as_ptr(), payload.len(), bands.as_mut_ptr(), count) }
 }
 
 pub fn field(field: &[u8], width: usize, height: usize, start_row: usize, pixels: &mut [u8], codes: &mut usize, clipped: &mut usize) -> u8 {
     unsafe { vobsub_decode_rle_field(field.as_ptr(), field.len(), width, height, start_row, pixels.as_mut_ptr(), pixels.len(), codes, clipped) }
 }
 
-pub fn unit(unit: &[u8], pixels: &mut [u8], words: &mut [u16], numbers: &mut [usize; NUMBERS]) -> u8 {
-    unsafe { vobsub_parse_and_decode_spu(unit.as_ptr(), unit.len(), pixels.as_mut_ptr(), pixels.len(), words.as_mut_ptr(), words.len(), numbers.as_mut_ptr()) }
+pub fn unit(unit: &[u8], pixels: &mut [u8], bands: &mut [u16; BANDS], numbers: &mut [usize; NUMBERS]) -> u8 {
+    unsafe { vobsub_parse_and_decode_spu(unit.as_ptr(), unit.len(), pixels.as_mut_ptr(), pixels.len(), bands.as_mut_ptr(), numbers.as_mut_ptr()) }
 }
 
 pub fn write(width: usize, height: usize, indices: &[u8], out: &mut [u8], length: &mut usize) -> u8 {
@@ -92,12 +93,11 @@ pub fn pick_cue(text: &[u8], cue: usize, start: &mut i64, palette: &mut [u8; COL
 pub struct Lent<'a> {
     pub scratch: &'a mut [u8],
     pub pixels: &'a mut [u8],
-    pub words: &'a mut [u16],
     pub canvas: &'a mut [u8],
 }
 
 pub fn decode_cue(text: &[u8], file: &[u8], cue: usize, stream: usize, lent: Lent, times: &mut [i64; TIMES], numbers: &mut [u64; SHOWN_NUMBERS]) -> u8 {
-    let Lent { scratch, pixels, words, canvas } = lent;
+    let Lent { scratch, pixels, canvas } = lent;
     unsafe {
         vobsub_decode_cue(
             text.as_ptr(),
@@ -110,8 +110,6 @@ pub fn decode_cue(text: &[u8], file: &[u8], cue: usize, stream: usize, lent: Len
             scratch.len(),
             pixels.as_mut_ptr(),
             pixels.len(),
-            words.as_mut_ptr(),
-            words.len(),
             canvas.as_mut_ptr(),
             canvas.len(),
             times.as_mut_ptr(),

@@ -1,6 +1,7 @@
 // The original in the terms in which both sides are compared.
 use crate::Counts;
 use crate::empty::NO_BYTES;
+use crate::limit::MANY;
 use crate::port::{NUMBERS, START, STOP};
 use crate::times::LONG;
 
@@ -71,12 +72,14 @@ pub struct Side {
     pub write: fn(u16, u16, &[u8]) -> Vec<u8>,
     pub counting: Counting,
     pub empty: Empty,
+    pub limit: Limit,
     pub times: Times,
 }
 
-// The copy that counts codes and says whether a start and a stop stood, which the original does not: called in `counted`.
+// The copy that counts codes and bands and says whether a start and a stop stood, which the original does not: called in `counted`.
 #[derive(Clone, Copy)]
 pub struct Counting {
+    pub bands: fn(&[u8]) -> Result<Vec<u16>, String>,
     pub field: fn(&[u8], usize, usize, usize, &mut [u8]) -> Result<(), String>,
     pub unit: fn(&[u8]) -> Result<Decoded, String>,
 }
@@ -95,6 +98,20 @@ impl Empty {
     // The rule, where the text is that one.
     pub fn rule(&self, text: &[u8]) -> Option<&'static str> {
         (self.no_bytes)(text).then_some(NO_BYTES)
+    }
+}
+
+// The limit of 32 bands, which the original does not have.
+#[derive(Clone, Copy)]
+pub struct Limit {
+    // Whether 34 is asked for of so many bands, where the original gives that refusal; 0 where it accepts.
+    pub asked: fn(usize, u8) -> bool,
+}
+
+impl Limit {
+    // The rule, where 34 is asked for.
+    pub fn rule(&self, counts: Counts, refusal: u8) -> Option<&'static str> {
+        (self.asked)(counts.bands, refusal).then_some(MANY)
     }
 }
 

@@ -1,18 +1,25 @@
-// The bands of all colour changes of a unit whose control blocks were read before, stored as words (docs/FORMAT.md, 3.6 and 4.5).
+// The bands of all colour changes of a unit whose control blocks were read before, at most 32, stored as words
+// (docs/FORMAT.md, 3.6, 3.7 and 4.5).
 use bands_model::BandAnswer;
+use chg_colcon::MOST_BANDS;
+use chg_colcon::MOST_WORDS;
 use control::taken;
 use control::word_at;
 use control_model::Place;
+use control_model::UnitBands;
+use outcome::MANY_BANDS;
 ghost use mathlib.Core.Path.{_≡_};
-ghost use mathlib.Core.List.{List};
+ghost use mathlib.Core.List.{List, []};
 ghost use mathlib.Core.Option.{some};
 ghost use Prim.Native.Nat.{_≤_, _<_, _+_};
 ghost use lib.ListN.{length};
 ghost use lib.Seq.{sets};
-ghost use Rattle.outcome.specs.Outcome.{ok, IsOk};
+ghost use Rattle.outcome.specs.Outcome.{ok, IsOk, many-bands};
 ghost use Rattle.grammar.specs.Bytes.{byte};
 ghost use Rattle.grammar.specs.Control.{Order, Command, Block};
 ghost use Rattle.control_model.specs.Chain.{changeAt, orderAt, commandsAt, blocksAt, controlAt};
+ghost use Rattle.bands_model.specs.Answers.{padded};
+ghost use Rattle.control_model.specs.Few.{fewAt, bandsGiven};
 ghost use Rattle.control_model.specs.Fill.{orderWords, blockWords, chainWords, unitWords, OrderFilled, Filled};
 
 // The bands of a colour change that was read before, its size word at p, stored from place `to` on.
@@ -83,11 +90,48 @@ fn fill_chain(unit: &[u8], end: usize, from: usize, words: &mut [u16])
 
 // The bands of a unit whose control blocks were read before, stored as words.
 // Ruled out: bands of the last colour change alone; words past those of the bands.
-pub fn fill_bands(unit: &[u8], words: &mut [u16])
+fn fill_bands(unit: &[u8], words: &mut [u16])
     requires { ⌜ (IsOk (controlAt (now unit))) × (length (unitWords (now unit)) ≤ length (now words)) ⌝ }
     ensures { λ _. ⌜ now (words .exit) ≡ sets (now (words .entry)) 0 (unitWords (now (unit .entry))) ⌝ }
 {
     let end = word_at(unit, 0) as usize;
     let from = word_at(unit, 2) as usize;
     fill_chain(unit, end, from, words);
+}
+
+// The words of a unit's bands, which are `count`, and 0 after them. A unit without bands is not walked again.
+fn band_array(unit: &[u8], count: usize) -> [u16; 1536]
+    requires { ⌜ (IsOk (controlAt (now unit))) × (count ≡ length (unitWords (now unit))) × (count ≤ 1536) ⌝ }
+    ensures { λ r. ⌜ r ≡ padded (unitWords (now (unit .entry))) ⌝ }
+{
+    let mut words = [0u16; 1536];
+    if 0 < count {
+        fill_bands(unit, &mut words[..]);
+    }
+    words
+}
+
+fn too_many() -> UnitBands
+    ensures { λ r. ⌜ (r .refused ≡ many-bands) × (r .words ≡ padded []) ⌝ }
+{
+    UnitBands {
+        refused: MANY_BANDS,
+        words: [0u16; 1536],
+    }
+}
+
+// The bands of a unit whose control blocks were read before and whose bands take `count` words.
+// Ruled out: 33 bands without entries, which take few words; bands of one colour change counted alone.
+pub fn unit_bands(unit: &[u8], count: usize) -> UnitBands
+    requires { ⌜ (IsOk (controlAt (now unit))) × (count ≡ length (unitWords (now unit))) ⌝ }
+    ensures { λ r. ⌜ r ≡ bandsGiven (fewAt (now (unit .entry))) ⌝ }
+{
+    if MOST_WORDS < count {
+        return too_many();
+    }
+    let words = band_array(unit, count);
+    if MOST_BANDS < look::count_bands(&words[..count]) {
+        return too_many();
+    }
+    UnitBands { refused: 0, words }
 }

@@ -2,10 +2,13 @@
 use mathlib.Core.Path.{_≡_, refl}
 use mathlib.Core.Bool.{true}
 use mathlib.Core.Option.{some}
-use mathlib.Core.List.{[], _∷_}
-use Rattle.outcome.specs.Outcome.{refuse, no-band-list, short-words}
+use Prim.Native.Nat.{ℕ}
+use mathlib.Core.List.{List, [], _∷_}
+use lib.ListN.{length, getD, replicate}
+use Rattle.outcome.specs.Outcome.{ok, refuse, no-band-list, many-bands}
 use Rattle.bands_model.specs.Bands.{header, entryOf, bandsOf, entriesOf}
-use Rattle.bands_model.specs.Answers.{stored}
+use Rattle.bands_model.specs.Count.{counting, bandsHeld}
+use Rattle.bands_model.specs.Answers.{padded, stored, arrayAfter}
 use Rattle.bands_model.specs.Look.{look, looking, lookWords, spanning, spansLine}
 use Rattle.bands_model.specs.declared.EntryRead.the-variants as E
 
@@ -14,10 +17,29 @@ pub equal-columns : bandsOf (0 ∷ 0 ∷ 32 ∷ 0 ∷ 0 ∷ 1 ∷ 0 ∷ 0 ∷ 0 
 unfolding bandsOf entriesOf header entryOf
 equal-columns = refl
 
--- three words have no room from place 1 on in three
-pub few-words : stored (0 ∷ 0 ∷ 0 ∷ 0 ∷ []) 1 (0 ∷ 0 ∷ 0 ∷ []) ≡ refuse short-words
-unfolding stored bandsOf header
-few-words = refl
+-- 32 headers without entries are stored, 33 are too many, though they take 99 words
+pub bands-32 : stored (replicate 128 0) ≡ ok (replicate 96 0)
+unfolding stored bandsOf header counting
+bands-32 = refl
+
+pub bands-33 : stored (replicate 132 0) ≡ refuse many-bands
+unfolding stored bandsOf header counting
+bands-33 = refl
+
+-- six words of one band, then 0 at the next place and at the last; an array after a refusal is as found
+abbrev six : List ℕ
+six = 0 ∷ 5 ∷ 1 ∷ 0 ∷ 7 ∷ 8 ∷ []
+
+pub words-then-0 : getD (padded six) 5 9 ∷ getD (padded six) 6 9 ∷ getD (padded six) 1535 9 ∷ length (padded six) ∷ [] ≡ 8 ∷ 0 ∷ 0 ∷ 1536 ∷ []
+words-then-0 = refl
+
+pub array-kept : arrayAfter (1 ∷ []) (refuse many-bands) ≡ 1 ∷ []
+array-kept = refl
+
+-- a band with an entry and one without are two, and the entry none
+pub held-2 : bandsHeld (0 ∷ 5 ∷ 1 ∷ 0 ∷ 7 ∷ 8 ∷ 0 ∷ 5 ∷ 0 ∷ []) ≡ 2
+unfolding counting
+held-2 = refl
 
 -- a band of lines 0 to 5 gives its colours on line 5
 pub last-line : lookWords 0 5 (0 ∷ 5 ∷ 1 ∷ 0 ∷ 7 ∷ 8 ∷ []) ≡ some (look 7 8)

@@ -9,7 +9,7 @@ use mathlib.Core.List.{List, [], _∷_, _++_}
 use borrow.Author.Tests.{eq-eqb, ne-eqb, le-ltb, lt-ltb, le-leb, eqb-true, eqb-false, ltb-true, leb-true}
 use lib.Dec.{eqb, ltb, leb}
 use lib.ListN.{length, getD, drop, take}
-use lib.Seq.{slice, length-slice, drop-drop, getD-drop, getD-take}
+use lib.Seq.{slice, length-slice, take-all, drop-drop, getD-drop, getD-take}
 use Rattle.outcome.specs.Outcome.{Res, ok, refuse}
 use Rattle.outcome.proofs.Laws.{ok-not-refuse, ok-injective, le-or-lt}
 use Rattle.grammar.specs.Bytes.{word}
@@ -307,3 +307,13 @@ bands-iff u e p ws k b = (
   λ q. bands-sound u e k (suc (e - p)) p ws b (omega arith) q,
   λ l. bands-complete u e k (l .bands) p (l .is) ∙ ap ok (sym (l .words)),
 )
+
+-- a whole payload
+whole : (s : List ℕ) → slice 0 (length s) s ≡ s
+whole s = take-all (length s) s (omega arith)
+
+pub listed-words : (s vs : List ℕ) → bandsOf s ≡ ok vs → Listing s (length s) 0 vs
+listed-words s vs q = bands-iff s (length s) 0 vs (omega arith) (omega arith) .0 (ap bandsOf (whole s) ∙ q)
+
+pub words-listed : (s vs : List ℕ) → Listing s (length s) 0 vs → bandsOf s ≡ ok vs
+words-listed s vs l = sym (ap bandsOf (whole s)) ∙ bands-iff s (length s) 0 vs (omega arith) (omega arith) .1 l

@@ -192,8 +192,3 @@ pub bands-counted : (u : List ℕ) (e p : ℕ) (bs : List Band) → Bands u e p 
 unfolding Bands Counted
 bands-counted u e p [] h = tt
 bands-counted u e p (b ∷ bs) h = (h .1 .all, bands-counted u e (bandEnd b) bs (h .2))
-
-pub counted-join : (cs bs : List Band) → Counted cs → Counted bs → Counted (cs ++ bs)
-unfolding Counted
-counted-join [] bs g h = h
-counted-join (a ∷ cs) bs g h = (g .0, counted-join cs bs (g .1) h)

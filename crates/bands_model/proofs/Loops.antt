@@ -1,22 +1,21 @@
--- Laws of the band list's definitions: a turn of reading, a turn of storing, and what is stored where it fits. Assumes nothing.
+-- Laws of the band list's definitions: a turn of reading and a turn of storing. Assumes nothing.
 use mathlib.Core.Path.{_≡_, refl, ap, sym, subst, _∙_}
 use mathlib.Core.List.{List, [], _∷_, _++_, append-assoc}
 use mathlib.Core.Bool.{Bool, true, false, cond}
-use Rattle.outcome.specs.Outcome.{Res, ok, refuse, listed, IsOk, no-band-list, short-words}
+use Rattle.outcome.specs.Outcome.{Res, ok, refuse, IsOk, no-band-list}
 use Prim.Native.Nat.{ℕ, _+_, _-_, _<_, _≤_}
 use native.Mathlib.Numerals.{add-one, add-two, add-three}
 use native.Mathlib.Omega.{arith}
-use borrow.Author.Tests.{eq-eqb, ne-eqb, le-ltb, le-leb, lt-leb, ltb-false}
+use borrow.Author.Tests.{eq-eqb, ne-eqb, le-ltb, ltb-false}
 use lib.Dec.{ltb, eqb}
 use lib.ListN.{length, getD, drop, take, set, length-drop, length-append}
 use Rattle.outcome.proofs.Laws.{sets-append}
 use lib.Seq.{sets, take-all, drop-drop, length-sets}
 use Rattle.grammar.specs.Bands.{Band, entryWords, bandWords}
 use Rattle.bands_model.specs.Bands.{wordOf, push3, header, headOf, entryOf, onHead, onEntry, bandsOf, entriesOf}
-use Rattle.bands_model.specs.Answers.{countOf, stored, Stored, pushes, restOf, lastOf, Part, Goes, Ahead, ListRead}
+use Rattle.bands_model.specs.Answers.{pushes, restOf, lastOf, Part, Goes, Ahead, ListRead}
 use Rattle.bands_model.specs.declared.Stop.{Stop}
 use Rattle.bands_model.specs.declared.Stop.the-variants as stop
-use Rattle.bands_model.specs.declared.BandAnswer.{BandAnswer}
 use Rattle.bands_model.specs.declared.BandAnswer.the-variants as band-answer
 use Rattle.bands_model.specs.declared.Header.{Header}
 use Rattle.bands_model.specs.declared.Header.the-variants as H
@@ -333,51 +332,6 @@ list-ends s from to v v′ p = record { answer = rw (e, l) (ap band-answer.Words
 
 pub list-fails : (s : List ℕ) (from : ℕ) (v v′ : List ℕ) → bandsOf s ≡ refuse no-band-list → ListRead s from v (band-answer.Refused no-band-list) v′
 list-fails s from v v′ e = record { answer = rw e; words = λ o. absurd (subst IsOk e o) }
-
--- ---- Bands stored
-
-pub counted : (g : Res (List ℕ)) (n : ℕ) → countOf 0 g ≡ band-answer.Words n → IsOk g × (length (listed g) ≡ n)
-counted (refuse k) n e = let z : _≡_ {A = ℕ} 0 1 = cc in absurd (omega arith)
-counted (ok ws) n e =
-    let q : 0 + length ws ≡ n = cc in
-    (tt, omega arith)
-
-module _ (s : List ℕ) (at : ℕ) (ws : List ℕ) where
-  pub stored-words : (n : ℕ) (r : BandAnswer) (ws′ : List ℕ) → countOf 0 (bandsOf s) ≡ band-answer.Words n → at + n ≤ length ws → ListRead s at ws r ws′ → Stored s at ws r ws′
-  unfolding stored
-  stored-words n r ws′ e b f = go (bandsOf s) refl e (f .answer) (f .words)
-    where
-      go : (g : Res (List ℕ)) → bandsOf s ≡ g → countOf 0 g ≡ band-answer.Words n → r ≡ countOf 0 g → (IsOk g → ws′ ≡ sets ws at (listed g)) → Stored s at ws r ws′
-      go (refuse k) q e f g = let z : _≡_ {A = ℕ} 0 1 = cc in absurd (omega arith)
-      go (ok v) q e f g =
-          let l : at + length v ≤ length ws = omega (arith, counted (ok v) n e .1) in
-          record { answer = rw (q, le-leb (at + length v) (length ws) l) f; words = rw (q, le-leb (at + length v) (length ws) l) (g tt) }
-
-  -- bands that were counted before
-  pub stored-known : (r : BandAnswer) (ws′ : List ℕ) → IsOk (bandsOf s) → at + length (listed (bandsOf s)) ≤ length ws → ListRead s at ws r ws′ → Stored s at ws r ws′
-  stored-known r ws′ o b f = stored-words (length (listed (bandsOf s))) r ws′ (known (bandsOf s) o) b f
-    where
-      known : (g : Res (List ℕ)) → IsOk g → countOf 0 g ≡ band-answer.Words (length (listed g))
-      known (refuse k) o = absurd o
-      known (ok v) o = ap band-answer.Words (omega arith)
-
-  pub stored-short : (n : ℕ) → countOf 0 (bandsOf s) ≡ band-answer.Words n → length ws < at + n → Stored s at ws (band-answer.Refused short-words) ws
-  unfolding stored
-  stored-short n e b = go (bandsOf s) refl e
-    where
-      go : (g : Res (List ℕ)) → bandsOf s ≡ g → countOf 0 g ≡ band-answer.Words n → Stored s at ws (band-answer.Refused short-words) ws
-      go (refuse k) q e = let z : _≡_ {A = ℕ} 0 1 = cc in absurd (omega arith)
-      go (ok v) q e =
-          let l : length ws < at + length v = omega (arith, counted (ok v) n e .1) in
-          record { answer = rw (q, lt-leb (at + length v) (length ws) l); words = rw (q, lt-leb (at + length v) (length ws) l) }
-
-  pub stored-none : (k : ℕ) → countOf 0 (bandsOf s) ≡ band-answer.Refused k → Stored s at ws (band-answer.Refused k) ws
-  unfolding stored
-  stored-none k e = go (bandsOf s) refl e
-    where
-      go : (g : Res (List ℕ)) → bandsOf s ≡ g → countOf 0 g ≡ band-answer.Refused k → Stored s at ws (band-answer.Refused k) ws
-      go (ok v) q e = let z : _≡_ {A = ℕ} 0 1 = cc in absurd (omega arith)
-      go (refuse m) q e = record { answer = rw q (sym e); words = rw q }
 
 -- joined bands are stored one payload after the other
 pub words-join : (cs bs : List Band) → bandWords (cs ++ bs) ≡ bandWords cs ++ bandWords bs

@@ -1,14 +1,16 @@
--- A payload is refused with 19, and stored bands with 19 or 23, in this order. Assumes nothing.
+-- A payload is refused with 19 or 34, in this order. Assumes nothing.
 use Prim.Native.Nat.{ℕ, _+_, _-_}
 use mathlib.Core.Path.{_≡_, refl, sym, ap}
 use mathlib.Core.Bool.{Bool, true, false, cond}
 use mathlib.Core.List.{List, [], _∷_}
 use lib.Dec.{leb, eqb}
-use lib.ListN.{length}
+use lib.ListN.{replicate}
 use Rattle.outcome.proofs.Numbers.{in-table, check-numbered, andThen-numbered, only-numbered}
-use Rattle.outcome.specs.Outcome.{InTable, Res, ok, refuse, no-band-list, short-words, Numbered}
+use Rattle.outcome.specs.Outcome.{InTable, Res, ok, refuse, no-band-list, many-bands, Numbered}
 use Rattle.outcome.proofs.Laws.{ok-not-refuse, refuse-injective}
 use Rattle.bands_model.specs.Bands.{push3, wordOf, header, entryOf, onHead, onEntry, bandsOf, entriesOf}
+use Rattle.grammar.specs.Bands.{most-bands}
+use Rattle.bands_model.specs.Count.{bandsHeld}
 use Rattle.bands_model.specs.Answers.{stored}
 use Rattle.bands_model.specs.declared.Header.{Header}
 use Rattle.bands_model.specs.declared.Header.the-variants as H
@@ -54,15 +56,15 @@ mutual
       go f g E.Bad q = sym (refuse-injective q)
       go f g (E.Got c x y) q = either (eqb n 1) k (bandsOf s) (entriesOf s (n - 1) (c + 1)) f (g c) (push-refuses c x y k (cond (eqb n 1) (bandsOf s) (entriesOf s (n - 1) (c + 1))) q)
 
-pub stored-numbered : (s : List ℕ) (at : ℕ) (ws : List ℕ) → Numbered (stored s at ws)
+pub stored-numbered : (s : List ℕ) → Numbered (stored s)
 unfolding stored
-stored-numbered s at ws =
+stored-numbered s =
     andThen-numbered InTable (bandsOf s) _ (only-numbered InTable no-band-list (in-table no-band-list refl) (bandsOf s) (bands-refuses s))
-    (λ v. check-numbered InTable (leb (at + length v) (length ws)) short-words (ok v) (in-table short-words refl) tt)
+    (λ v. check-numbered InTable (leb (bandsHeld v) most-bands) many-bands (ok v) (in-table many-bands refl) tt)
 
--- 19 before 23: a byte that is no list, from place 9 on of one word
+-- 19 before 34: 33 headers, and a byte that is none
 pub orders :
-    -- 19, and 23
-    (stored (0x00 ∷ []) 9 (0 ∷ []) ≡ refuse no-band-list)
-unfolding stored bandsOf
+    -- 19, and 34
+    (stored (replicate 133 0) ≡ refuse no-band-list)
+unfolding stored bandsOf header
 orders = refl

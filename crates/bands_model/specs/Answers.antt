@@ -4,10 +4,12 @@ use mathlib.Core.Path.{_≡_}
 use mathlib.Core.Bool.{cond}
 use mathlib.Core.List.{List, [], _++_}
 use lib.Dec.{leb, eqb}
-use lib.ListN.{length, drop}
+use lib.ListN.{length, drop, replicate}
 use lib.Seq.{sets}
-use Rattle.outcome.specs.Outcome.{Res, ok, refuse, check, andThen, listed, IsOk, no-band-list, short-words}
+use Rattle.outcome.specs.Outcome.{Res, ok, refuse, check, andThen, listed, IsOk, no-band-list, many-bands}
+use Rattle.grammar.specs.Bands.{most-bands, most-words}
 use Rattle.bands_model.specs.Bands.{bandsOf, entriesOf}
+use Rattle.bands_model.specs.Count.{bandsHeld}
 use Rattle.bands_model.specs.declared.BandAnswer.{BandAnswer}
 use Rattle.bands_model.specs.declared.BandAnswer.the-variants as band-answer
 use Rattle.bands_model.specs.declared.Stop.{Stop}
@@ -18,14 +20,23 @@ abbrev pub countOf : ℕ → Res (List ℕ) → BandAnswer
 countOf n (refuse k) = band-answer.Refused k
 countOf n (ok ws) = band-answer.Words (n + length ws)
 
--- the words of the bands in s, where the words that are lent from place `at` on are enough: 19 comes before 23
-unfoldable pub stored : List ℕ → ℕ → List ℕ → Res (List ℕ)
-stored s at ws = andThen (bandsOf s) (λ v. check (leb (at + length v) (length ws)) short-words (ok v))
+-- words, and 0 after them
+abbrev pub padded : List ℕ → List ℕ
+padded ws = sets (replicate most-words 0) 0 ws
 
--- what storing bands leaves: on a refusal nothing is listed, so the words are as found
-pub record Stored (s : List ℕ) (at : ℕ) (ws : List ℕ) (r : BandAnswer) (ws′ : List ℕ) : Type 0 where
-  pub answer : r ≡ countOf 0 (stored s at ws)
-  pub words : ws′ ≡ sets ws at (listed (stored s at ws))
+-- the words of the bands in s, where these are not too many: 19 comes before 34
+unfoldable pub stored : List ℕ → Res (List ℕ)
+stored s = andThen (bandsOf s) (λ v. check (leb (bandsHeld v) most-bands) many-bands (ok v))
+
+-- an array after words are stored in it, or as it was
+abbrev pub arrayAfter : List ℕ → Res (List ℕ) → List ℕ
+arrayAfter ws (ok v) = padded v
+arrayAfter ws (refuse k) = ws
+
+-- what reading a payload into an array leaves
+pub record Stored (s ws : List ℕ) (r : BandAnswer) (ws′ : List ℕ) : Type 0 where
+  pub answer : r ≡ countOf 0 (stored s)
+  pub words : ws′ ≡ arrayAfter ws (stored s)
 
 -- words in front of what follows
 abbrev pub pushes : List ℕ → Res (List ℕ) → Res (List ℕ)

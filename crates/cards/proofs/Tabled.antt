@@ -5,7 +5,7 @@ use Prim.Native.Nat.{ℕ}
 use mathlib.Core.Path.{_≡_, refl, sym, ap, ap₂, _∙_}
 use mathlib.Core.Bool.{true}
 use mathlib.Core.List.{List, [], _∷_, _++_, map}
-use lib.ListN.{length, getD, replicate}
+use lib.ListN.{getD, replicate}
 use Rattle.outcome.specs.Outcome.{ok}
 use Rattle.outcome.specs.Lists.{listFuel, listFrom}
 use Rattle.grammar.specs.Bytes.{word, nibble, nibbles}
@@ -22,6 +22,7 @@ use Rattle.rle_model.specs.Codes.{codeFrom, codeAt, rowAt, fieldAt}
 use Rattle.rle_model.specs.Field.{rowsFrom, paintField, decoded}
 use Rattle.rle_model.specs.Answers.{rowCounts, fieldCounts}
 use Rattle.rle_model.specs.Fields.{weave, lowerAt, fieldsAt}
+use Rattle.control_model.specs.Few.{fewAt}
 use Rattle.control_model.specs.Chain.{plainAt, changeAt, orderAt, commandAt, commandsAt, blockAt, blocksAt, headFits, chainAt, controlAt}
 use Rattle.grammar.specs.Bands.{entryWords, bandWords}
 use Rattle.control_model.specs.Answers.{spuOf}
@@ -44,7 +45,7 @@ use Rattle.demo_model.specs.Codes.{runs, cut, marksOf, digits, nibblesOf, packe
 use Rattle.demo_model.specs.Unit.{allColours, pictureOk, sizedUnit, demoAt}
 use Rattle.demo_model.specs.Unit as demo
 use native.Mathlib.Omega.{arith}
-use Rattle.grammar.specs.Reading.{wanted, wordsOf}
+use Rattle.grammar.specs.Reading.{wanted}
 use Rattle.grammar.proofs.Readings as readings
 use Rattle.vobsub_model.specs.Call.{lent}
 use Rattle.vobsub_model.proofs.Claim.{reading-iff}
@@ -57,11 +58,11 @@ abbrev wantOf : List Card → List (List ℕ)
 wantOf = map (λ (c : Card). c .want)
 
 bytes-hold : gotOf bytes ≡ wantOf bytes
-unfolding bytes code reader field fields unit found held unitFor written upper evens runs cut marksOf digits nibblesOf packed pictureRows fieldNibbles allColours pictureOk sizedUnit demoAt demo.unitOf position start numeral startOf all split unsigned signed bare text-lines.fields steps timeAt joined unitOf leading header1At headerAt bodyAt keptAt packAt privateAt kindAt packetAt packetsAt isBare formAt ps-unit.unitAt streamUnit listFuel listFrom word nibble nibbles paints overshoots afterCodes align rowPixels codesIn clippedRow clippedIn indexMap topEnd codeFrom codeAt rowAt fieldAt rowsFrom paintField decoded rowCounts fieldCounts weave lowerAt fieldsAt plainAt changeAt orderAt commandAt commandsAt blockAt blocksAt headFits chainAt controlAt spuOf entryWords bandWords rowsAt unitAt told commandsOf commandsIn firstDelay lastDelay lastNumbers stands allBands
+unfolding bytes code reader field fields unit found held unitFor written upper evens runs cut marksOf digits nibblesOf packed pictureRows fieldNibbles allColours pictureOk sizedUnit demoAt demo.unitOf position start numeral startOf all split unsigned signed bare text-lines.fields steps timeAt joined unitOf leading header1At headerAt bodyAt keptAt packAt privateAt kindAt packetAt packetsAt isBare formAt ps-unit.unitAt streamUnit listFuel listFrom word nibble nibbles paints overshoots afterCodes align rowPixels codesIn clippedRow clippedIn indexMap topEnd codeFrom codeAt rowAt fieldAt rowsFrom paintField decoded rowCounts fieldCounts weave lowerAt fieldsAt plainAt changeAt orderAt commandAt commandsAt blockAt blocksAt headFits chainAt controlAt fewAt spuOf entryWords bandWords rowsAt unitAt told commandsOf commandsIn firstDelay lastDelay lastNumbers stands allBands
 bytes-hold = refl
 
 lines-hold : gotOf lines ≡ wantOf lines
-unfolding lines titleLines cueLines front rest shorn trim strip checked cuesOfLines cueAt durationOf firstOf lastOf partsAt text-lines.lineOf linesIn textIn idxIn digitsIn decimal shownLine refusedLine cuesLine fileLine unitFor shownFor code field fields unit found written upper evens runs cut marksOf digits nibblesOf packed pictureRows fieldNibbles allColours pictureOk sizedUnit demoAt demo.unitOf position start numeral startOf all split unsigned signed bare text-lines.fields steps timeAt joined unitOf leading header1At headerAt bodyAt keptAt packAt privateAt kindAt packetAt packetsAt isBare formAt ps-unit.unitAt streamUnit listFuel listFrom word nibble nibbles paints overshoots afterCodes align rowPixels codesIn clippedRow clippedIn indexMap topEnd codeFrom codeAt rowAt fieldAt rowsFrom paintField decoded rowCounts fieldCounts weave lowerAt fieldsAt plainAt changeAt orderAt commandAt commandsAt blockAt blocksAt headFits chainAt controlAt spuOf entryWords bandWords rowsAt unitAt told commandsOf commandsIn firstDelay lastDelay lastNumbers stands allBands
+unfolding lines titleLines cueLines front rest shorn trim strip checked cuesOfLines cueAt durationOf firstOf lastOf partsAt text-lines.lineOf linesIn textIn idxIn digitsIn decimal shownLine refusedLine cuesLine fileLine unitFor shownFor code field fields unit found written upper evens runs cut marksOf digits nibblesOf packed pictureRows fieldNibbles allColours pictureOk sizedUnit demoAt demo.unitOf position start numeral startOf all split unsigned signed bare text-lines.fields steps timeAt joined unitOf leading header1At headerAt bodyAt keptAt packAt privateAt kindAt packetAt packetsAt isBare formAt ps-unit.unitAt streamUnit listFuel listFrom word nibble nibbles paints overshoots afterCodes align rowPixels codesIn clippedRow clippedIn indexMap topEnd codeFrom codeAt rowAt fieldAt rowsFrom paintField decoded rowCounts fieldCounts weave lowerAt fieldsAt plainAt changeAt orderAt commandAt commandsAt blockAt blocksAt headFits chainAt controlAt fewAt spuOf entryWords bandWords rowsAt unitAt told commandsOf commandsIn firstDelay lastDelay lastNumbers stands allBands
 lines-hold = refl
 
 -- a time at the end of its range, and one past it
@@ -75,16 +76,16 @@ leave-holds = refl
 
 -- the title of 2 by 2: its cues, what is shown of its unit from two starts on, and its line
 small-cues : cuesIn small-text ≡ ok (cueFrom 1000000 ∷ [])
-unfolding small-text front rest shorn trim strip checked cuesOfLines cueAt durationOf firstOf lastOf partsAt text-lines.lineOf linesIn textIn idxIn digitsIn decimal shownLine refusedLine cuesLine fileLine unitFor shownFor code field fields unit found written upper evens runs cut marksOf digits nibblesOf packed pictureRows fieldNibbles allColours pictureOk sizedUnit demoAt demo.unitOf position start numeral startOf all split unsigned signed bare text-lines.fields steps timeAt joined unitOf leading header1At headerAt bodyAt keptAt packAt privateAt kindAt packetAt packetsAt isBare formAt ps-unit.unitAt streamUnit listFuel listFrom word nibble nibbles paints overshoots afterCodes align rowPixels codesIn clippedRow clippedIn indexMap topEnd codeFrom codeAt rowAt fieldAt rowsFrom paintField decoded rowCounts fieldCounts weave lowerAt fieldsAt plainAt changeAt orderAt commandAt commandsAt blockAt blocksAt headFits chainAt controlAt spuOf entryWords bandWords rowsAt unitAt told commandsOf commandsIn firstDelay lastDelay lastNumbers stands allBands
+unfolding small-text front rest shorn trim strip checked cuesOfLines cueAt durationOf firstOf lastOf partsAt text-lines.lineOf linesIn textIn idxIn digitsIn decimal shownLine refusedLine cuesLine fileLine unitFor shownFor code field fields unit found written upper evens runs cut marksOf digits nibblesOf packed pictureRows fieldNibbles allColours pictureOk sizedUnit demoAt demo.unitOf position start numeral startOf all split unsigned signed bare text-lines.fields steps timeAt joined unitOf leading header1At headerAt bodyAt keptAt packAt privateAt kindAt packetAt packetsAt isBare formAt ps-unit.unitAt streamUnit listFuel listFrom word nibble nibbles paints overshoots afterCodes align rowPixels codesIn clippedRow clippedIn indexMap topEnd codeFrom codeAt rowAt fieldAt rowsFrom paintField decoded rowCounts fieldCounts weave lowerAt fieldsAt plainAt changeAt orderAt commandAt commandsAt blockAt blocksAt headFits chainAt controlAt fewAt spuOf entryWords bandWords rowsAt unitAt told commandsOf commandsIn firstDelay lastDelay lastNumbers stands allBands
 small-cues = refl
 
 unit-shows : (shownFor (cueFrom 1000000 ∷ []) small-file 0 ≡ ok (shownFrom 1000000))
     × (shownFor (cueFrom 0 ∷ []) small-file 0 ≡ ok (shownFrom 0))
-unfolding small-file front rest shorn trim strip checked cuesOfLines cueAt durationOf firstOf lastOf partsAt text-lines.lineOf linesIn textIn idxIn digitsIn decimal shownLine refusedLine cuesLine fileLine unitFor timedFor timesStay shownFor code field fields unit found written upper evens runs cut marksOf digits nibblesOf packed pictureRows fieldNibbles allColours pictureOk sizedUnit demoAt demo.unitOf position start numeral startOf all split unsigned signed bare text-lines.fields steps timeAt joined unitOf leading header1At headerAt bodyAt keptAt packAt privateAt kindAt packetAt packetsAt isBare formAt ps-unit.unitAt streamUnit listFuel listFrom word nibble nibbles paints overshoots afterCodes align rowPixels codesIn clippedRow clippedIn indexMap topEnd codeFrom codeAt rowAt fieldAt rowsFrom paintField decoded rowCounts fieldCounts weave lowerAt fieldsAt plainAt changeAt orderAt commandAt commandsAt blockAt blocksAt headFits chainAt controlAt spuOf entryWords bandWords rowsAt unitAt told commandsOf commandsIn firstDelay lastDelay lastNumbers stands allBands
+unfolding small-file front rest shorn trim strip checked cuesOfLines cueAt durationOf firstOf lastOf partsAt text-lines.lineOf linesIn textIn idxIn digitsIn decimal shownLine refusedLine cuesLine fileLine unitFor timedFor timesStay shownFor code field fields unit found written upper evens runs cut marksOf digits nibblesOf packed pictureRows fieldNibbles allColours pictureOk sizedUnit demoAt demo.unitOf position start numeral startOf all split unsigned signed bare text-lines.fields steps timeAt joined unitOf leading header1At headerAt bodyAt keptAt packAt privateAt kindAt packetAt packetsAt isBare formAt ps-unit.unitAt streamUnit listFuel listFrom word nibble nibbles paints overshoots afterCodes align rowPixels codesIn clippedRow clippedIn indexMap topEnd codeFrom codeAt rowAt fieldAt rowsFrom paintField decoded rowCounts fieldCounts weave lowerAt fieldsAt plainAt changeAt orderAt commandAt commandsAt blockAt blocksAt headFits chainAt controlAt fewAt spuOf entryWords bandWords rowsAt unitAt told commandsOf commandsIn firstDelay lastDelay lastNumbers stands allBands
 unit-shows = (refl, refl)
 
 small-line : (cuesLine 1 ++ (shownLine 0 (shownFrom 1000000) ++ [])) ≡ small-title .want
-unfolding small-title front rest shorn trim strip checked cuesOfLines cueAt durationOf firstOf lastOf partsAt text-lines.lineOf linesIn textIn idxIn digitsIn decimal shownLine refusedLine cuesLine fileLine unitFor shownFor code field fields unit found written upper evens runs cut marksOf digits nibblesOf packed pictureRows fieldNibbles allColours pictureOk sizedUnit demoAt demo.unitOf position start numeral startOf all split unsigned signed bare text-lines.fields steps timeAt joined unitOf leading header1At headerAt bodyAt keptAt packAt privateAt kindAt packetAt packetsAt isBare formAt ps-unit.unitAt streamUnit listFuel listFrom word nibble nibbles paints overshoots afterCodes align rowPixels codesIn clippedRow clippedIn indexMap topEnd codeFrom codeAt rowAt fieldAt rowsFrom paintField decoded rowCounts fieldCounts weave lowerAt fieldsAt plainAt changeAt orderAt commandAt commandsAt blockAt blocksAt headFits chainAt controlAt spuOf entryWords bandWords rowsAt unitAt told commandsOf commandsIn firstDelay lastDelay lastNumbers stands allBands
+unfolding small-title front rest shorn trim strip checked cuesOfLines cueAt durationOf firstOf lastOf partsAt text-lines.lineOf linesIn textIn idxIn digitsIn decimal shownLine refusedLine cuesLine fileLine unitFor shownFor code field fields unit found written upper evens runs cut marksOf digits nibblesOf packed pictureRows fieldNibbles allColours pictureOk sizedUnit demoAt demo.unitOf position start numeral startOf all split unsigned signed bare text-lines.fields steps timeAt joined unitOf leading header1At headerAt bodyAt keptAt packAt privateAt kindAt packetAt packetsAt isBare formAt ps-unit.unitAt streamUnit listFuel listFrom word nibble nibbles paints overshoots afterCodes align rowPixels codesIn clippedRow clippedIn indexMap topEnd codeFrom codeAt rowAt fieldAt rowsFrom paintField decoded rowCounts fieldCounts weave lowerAt fieldsAt plainAt changeAt orderAt commandAt commandsAt blockAt blocksAt headFits chainAt controlAt fewAt spuOf entryWords bandWords rowsAt unitAt told commandsOf commandsIn firstDelay lastDelay lastNumbers stands allBands
 small-line = refl
 
 small-readable : readable true small-text small-file ≡ true
@@ -97,10 +98,10 @@ small-holds = rw (small-readable, small-cues, unit-shows .0) small-line
 
 -- its reading is a closed term that passes the grammar, and so the one that is found
 small-paints : small-painted .got ≡ small-painted .want
-unfolding small-painted cue small-text small-file wordsOf told commandsOf commandsIn firstDelay lastDelay lastNumbers stands allBands
+unfolding small-painted cue small-text small-file told commandsOf commandsIn firstDelay lastDelay lastNumbers stands allBands
 small-paints =
-    rw (reading-iff small-text small-file (wanted 0 0) (lent [] (replicate 4 9) [] (replicate 16 9)) readings.small .1
-    (readings.small-passes 0 (omega arith), record { for-unit = omega arith; for-map = omega arith; for-bands = omega (arith, ap length readings.small-words); for-canvas = omega arith }))
+    rw (reading-iff small-text small-file (wanted 0 0) (lent [] (replicate 4 9) (replicate 16 9)) readings.small .1
+    (readings.small-passes 0 (omega arith), record { for-unit = omega arith; for-map = omega arith; for-canvas = omega arith }))
     (λ i. 0 ∷ shows (readings.small-shown i) ++ readings.small-canvas i)
 
 -- the same file with an index of no bytes
@@ -121,14 +122,13 @@ unfolding alone-title title titleLines cueLines
 alone-holds = rw (alone-readable, alone-cues, unit-shows .1) alone-line
 
 alone-paints : alone-painted .got ≡ alone-painted .want
-unfolding alone-painted cue small-file wordsOf told commandsOf commandsIn firstDelay lastDelay lastNumbers stands allBands
+unfolding alone-painted cue small-file told commandsOf commandsIn firstDelay lastDelay lastNumbers stands allBands
 alone-paints =
-    rw (reading-iff [] small-file (wanted 0 0) (lent [] (replicate 4 9) [] (replicate 16 9)) readings.alone .1 (
+    rw (reading-iff [] small-file (wanted 0 0) (lent [] (replicate 4 9) (replicate 16 9)) readings.alone .1 (
       readings.alone-passes 0 (omega arith),
       record {
         for-unit = omega arith;
         for-map = omega arith;
-        for-bands = omega (arith, ap length readings.alone-words);
         for-canvas = omega arith;
       },
     ))
@@ -136,14 +136,13 @@ alone-paints =
 
 -- the file of one that is shown and hidden
 timed-paints : timed-painted .got ≡ timed-painted .want
-unfolding timed-painted cue small-text timed-file wordsOf told commandsOf commandsIn firstDelay lastDelay lastNumbers stands allBands
+unfolding timed-painted cue small-text timed-file told commandsOf commandsIn firstDelay lastDelay lastNumbers stands allBands
 timed-paints =
-    rw (reading-iff small-text timed-file (wanted 0 0) (lent [] (9 ∷ []) [] (replicate 4 9)) readings.timed .1 (
+    rw (reading-iff small-text timed-file (wanted 0 0) (lent [] (9 ∷ []) (replicate 4 9)) readings.timed .1 (
       readings.timed-passes,
       record {
         for-unit = omega arith;
         for-map = omega arith;
-        for-bands = omega (arith, ap length readings.timed-words);
         for-canvas = omega arith;
       },
     ))

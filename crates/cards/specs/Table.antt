@@ -81,7 +81,7 @@ unfoldable pub fields : List ℕ → List ℕ → ℕ → ℕ → List ℕ → L
 fields top bottom w h px =
     paintField w w (listed (decoded bottom w h 1 px)) (paintField w 0 (listed (decoded top w h 0 px)) px)
 
--- the unit u, with no map and no words lent: width, height, selectors, alphas, both delays, the numbers of codes and of
+-- the unit u, with no map lent: width, height, selectors, alphas, both delays, the numbers of codes and of
 -- clipped ones, and the map
 unfoldable pub unit : List ℕ → List ℕ
 unit u =
@@ -295,7 +295,7 @@ small-title = card (title small-text small-file) (99 ∷ 117 ∷ 101 ∷ 115 ∷
 -- and its canvas, with exactly what it needs of each buffer
 unfoldable pub small-painted : Card
 small-painted =
-    card (cue small-text small-file (lent [] (replicate 4 9) [] (replicate 16 9)))
+    card (cue small-text small-file (lent [] (replicate 4 9) (replicate 16 9)))
     (0 ∷ 0 ∷ 1000000 ∷ 0 ∷ 0 ∷ 0 ∷ 1 ∷ 0 ∷ 1 ∷ 0 ∷ 1000000 ∷ 0 ∷ 0 ∷ 0 ∷ 2 ∷ 2 ∷ 3 ∷ 0
     ∷ 0 ∷ 0 ∷ 0 ∷ 255 ∷ 0 ∷ 0 ∷ 0 ∷ 255 ∷ 0 ∷ 0 ∷ 0 ∷ 255 ∷ 0 ∷ 0 ∷ 0 ∷ 255 ∷ [])
 
@@ -308,7 +308,7 @@ alone-title =
 
 unfoldable pub alone-painted : Card
 alone-painted =
-    card (cue [] small-file (lent [] (replicate 4 9) [] (replicate 16 9)))
+    card (cue [] small-file (lent [] (replicate 4 9) (replicate 16 9)))
     (0 ∷ 0 ∷ 0 ∷ 0 ∷ 0 ∷ 0 ∷ 1 ∷ 0 ∷ 1 ∷ 0 ∷ 0 ∷ 0 ∷ 0 ∷ 0 ∷ 2 ∷ 2 ∷ 3 ∷ 0
     ∷ 17 ∷ 17 ∷ 17 ∷ 255 ∷ 17 ∷ 17 ∷ 17 ∷ 255 ∷ 51 ∷ 51 ∷ 51 ∷ 255 ∷ 34 ∷ 34 ∷ 34 ∷ 255 ∷ [])
 
@@ -320,7 +320,7 @@ timed-file =
 
 unfoldable pub timed-painted : Card
 timed-painted =
-    card (cue small-text timed-file (lent [] (9 ∷ []) [] (replicate 4 9)))
+    card (cue small-text timed-file (lent [] (9 ∷ []) (replicate 4 9)))
     (0 ∷ 0 ∷ 1000000 ∷ 0 ∷ 1 ∷ 9 ∷ 1 ∷ 1 ∷ 1 ∷ 0 ∷ 1011377 ∷ 1 ∷ 0 ∷ 1102400 ∷ 0 ∷ 0 ∷ 1 ∷ 1 ∷ 1 ∷ 0
     ∷ 0 ∷ 0 ∷ 0 ∷ 0 ∷ [])
 

@@ -4,8 +4,8 @@ use bands_model::BandAnswer;
 use bands_model::EntryRead;
 use bands_model::Header;
 use bands_model::Stop;
+use outcome::MANY_BANDS;
 use outcome::NO_BAND_LIST;
-use outcome::SHORT_WORDS;
 ghost use mathlib.Core.Path.{_≡_};
 ghost use Prim.Native.Nat.{_≤_, _<_, _-_, _+_, _*_, _^_};
 ghost use lib.ListN.{length, drop, set};
@@ -271,29 +271,49 @@ pub fn count_words(payload: &[u8]) -> BandAnswer
     read_list(payload, &mut none, 0)
 }
 
-// The bands in a payload, stored from place `at` of the lent words on. On a refusal the words are as found.
-// Ruled out: words stored before the list is known to be whole; a colour's nibble in another place of its word.
-pub fn parse_chg_colcon_payload(payload: &[u8], words: &mut [u16], at: usize) -> BandAnswer
-    ensures { λ r. ⌜ Stored (now (payload .entry)) at (now (words .entry)) r (now (words .exit)) × Says (now (payload .entry)) at (now (words .entry)) (now (words .exit)) r ⌝ }
+// The most bands that a unit or a payload may have, and the most words that these take: 15 entries each.
+pub const MOST_BANDS: usize = 32;
+
+pub const MOST_WORDS: usize = 1536;
+
+// The bands in a payload, whose words were counted and are no more than the array has, in the array if they are not too
+// many.
+fn put_bands(payload: &[u8], count: usize, bands: &mut [u16; 1536]) -> BandAnswer
+    requires { ⌜ (IsOk (bandsOf (now payload))) × (count ≡ length (listed (bandsOf (now payload)))) × (count ≤ 1536) ⌝ }
+    ensures { λ r. ⌜ Stored (now (payload .entry)) (now (bands .entry)) r (now (bands .exit)) ⌝ }
+{
+    let mut words = [0u16; 1536];
+    store_words(payload, &mut words[..], 0);
+    if MOST_BANDS < look::count_bands(&words[..count]) {
+        return BandAnswer::Refused(MANY_BANDS);
+    }
+    *bands = words;
+    BandAnswer::Words(count)
+}
+
+// The bands in a payload, at most 32 of them: their words in the front of the array, and 0 after them. On a refusal the
+// array is as found.
+// Ruled out: the array written before the list is known to be whole and short enough; words counted in place of bands.
+pub fn parse_chg_colcon_payload(payload: &[u8], bands: &mut [u16; 1536]) -> BandAnswer
+    ensures { λ r. ⌜ Stored (now (payload .entry)) (now (bands .entry)) r (now (bands .exit)) × Says (now (payload .entry)) (now (bands .entry)) (now (bands .exit)) r ⌝ }
 {
     match count_words(payload) {
         BandAnswer::Words(n) => {
-            if at <= words.len() {
-                if n <= words.len() - at {
-                    return read_list(payload, words, at);
-                }
+            if MOST_WORDS < n {
+                return BandAnswer::Refused(MANY_BANDS);
             }
-            BandAnswer::Refused(SHORT_WORDS)
+            put_bands(payload, n, bands)
         }
         BandAnswer::Refused(number) => BandAnswer::Refused(number),
     }
 }
 
-// The same of bands that were counted before and for which there is room: they are not counted again.
+// The bands in a payload, which were counted before and for which there is room, stored from place `at` of the words
+// on.
 // Ruled out: words before `at` or behind the last one changed; words counted that are not stored.
 pub fn store_words(payload: &[u8], words: &mut [u16], at: usize) -> BandAnswer
     requires { ⌜ (IsOk (bandsOf (now payload))) × (at + length (listed (bandsOf (now payload))) ≤ length (now words)) ⌝ }
-    ensures { λ r. ⌜ Stored (now (payload .entry)) at (now (words .entry)) r (now (words .exit)) ⌝ }
+    ensures { λ r. ⌜ ListRead (now (payload .entry)) at (now (words .entry)) r (now (words .exit)) ⌝ }
 {
     read_list(payload, words, at)
 }

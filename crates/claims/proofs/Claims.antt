@@ -9,16 +9,18 @@ use mathlib.Core.List.{List, []}
 use lib.ListN.{length, getD, set, replicate}
 use lib.Seq.{sets}
 use lib.IntN.{ℤ, pos, _+ℤ_}
-use Rattle.outcome.specs.Outcome.{refuse, short-cues, no-cue, long-instant}
+use Rattle.outcome.specs.Outcome.{refuse, InTable, short-cues, no-cue, many-bands, long-instant}
+use Rattle.outcome.proofs.Numbers.{no-23}
 use Rattle.grammar.specs.Bytes.{byte}
-use Rattle.grammar.specs.Bands.{Band, Bands}
+use Rattle.grammar.specs.Bands.{Band, Bands, bandWords, recordWords}
+use Rattle.grammar.specs.Control.{Block, IsChain}
 use Rattle.grammar.specs.IndexParts.{blank, All}
 use Rattle.grammar.specs.Index.{greys, ListedText, of-lines, no-bytes, IsText}
 use Rattle.grammar.specs.IndexCues.{Cue, cuesOf, cueAt, paletteOf, hasPalette}
-use Rattle.grammar.specs.Packets.{Packet, Form, IsForm, unitOf, streamId, top-stream}
+use Rattle.grammar.specs.Packets.{Packet, Form, IsForm, unitOf, scratchFor, streamId, top-stream}
 use Rattle.grammar.specs.Picture.{ListedUnit, IsUnit}
 use Rattle.grammar.specs.Pixels.{clippedIn}
-use Rattle.grammar.specs.Record.{given, width}
+use Rattle.grammar.specs.Record.{told, given, width}
 use Rattle.grammar.specs.Times.{TimeStays}
 use Rattle.grammar.specs.Reading.{Wanted, wantedId, Reading, IsReading, toldBy, readingStart, showOf, hideOf, shown, unitCanvas, canvasOf}
 use Rattle.grammar.specs.Streams.{Walk, Alike}
@@ -28,6 +30,7 @@ use Rattle.grammar.proofs.UniqueControl.{unit-unique}
 use Rattle.grammar.proofs.UniqueIndex.{text-unique}
 use Rattle.grammar.proofs.UniquePackets.{form-unique}
 use Rattle.grammar.proofs.Clipped.{clipped-paints, clipped-cut, unclipped-whole, clipped-reading-most}
+use Rattle.grammar.proofs.Limit.{most-words-hold, record-length}
 use Rattle.grammar.proofs.Times.{shown-at, hidden-at, not-shown, not-hidden, times-stay}
 use Rattle.grammar.proofs.Streams.{walk-same}
 use Rattle.clock_model.specs.Answers.{micros, timeOr0}
@@ -37,6 +40,7 @@ use Rattle.rle_model.specs.Answers as field
 use Rattle.rle_model.specs.Claim as field-claim
 use Rattle.rle_model.proofs.Claim as field-proof
 use Rattle.bands_model.specs.declared.BandAnswer.{BandAnswer}
+use Rattle.bands_model.specs.declared.BandAnswer.the-variants as band-answer
 use Rattle.bands_model.specs.Answers.{Stored}
 use Rattle.bands_model.specs.Claim as bands-claim
 use Rattle.bands_model.proofs.Claim as bands-proof
@@ -52,11 +56,13 @@ use Rattle.idx_model.specs.Answers.{IdxRead, pickOf, cueAnswer}
 use Rattle.idx_model.specs.Claim.{IdxSays, CueSays}
 use Rattle.idx_model.proofs.Claim.{idx-claim, cue-claim}
 use Rattle.idx_model.proofs.NoBytes.{read-short, read-stored, picked-first, picked-other, blanks-listed, blanks-cueless, blanks-read, blanks-picked, blanks-unread}
+use Rattle.spu_model.specs.declared.Record.{Record}
 use Rattle.spu_model.specs.declared.SpuAnswer.{SpuAnswer}
 use Rattle.spu_model.specs.Unit.{unitAt}
 use Rattle.spu_model.specs.Answers as unit
 use Rattle.spu_model.specs.Claim as unit-claim
 use Rattle.spu_model.proofs.Claim as unit-proof
+use Rattle.spu_model.proofs.Many.{unit-many}
 use Rattle.demo_model.specs.declared.DemoAnswer.{DemoAnswer}
 use Rattle.demo_model.specs.Answers as demo
 use Rattle.demo_model.specs.Codes.{Mark, Proper, painted, runSize}
@@ -71,6 +77,7 @@ use Rattle.vobsub_model.specs.Answers.{CuePainted}
 use Rattle.vobsub_model.specs.Claim.{Room, Exactly, Undisturbed}
 use Rattle.vobsub_model.proofs.Claim as vobsub-proof
 use Rattle.vobsub_model.proofs.Late.{earlier, late-listed}
+use Rattle.vobsub_model.proofs.Many.{many-listed}
 use Rattle.vobsub_model.proofs.Streams as vobsub-streams
 use Rattle.vobsub_model.proofs.NoBytes.{painted-grey}
 use Rattle.listing_model.specs.Title.{formFor, cueLine}
@@ -160,9 +167,39 @@ same-walk = walk-same
 pub a-walk : (id : ℕ → Bool) (f : List ℕ) (p : ℕ) → (ps : List Packet) × Walk id f p [] ps
 a-walk = walk-there
 
--- A unit (`parse_and_decode_spu`, `measure_spu`): a record is given exactly where the grammar lists the unit and map and words are long enough.
-pub a-unit : (u px ws : List ℕ) (r : SpuAnswer) (px′ ws′ : List ℕ) → unit.Decoded u px ws r px′ ws′ → unit-claim.Says u px ws px′ ws′ r
-a-unit u px ws r px′ ws′ d = unit-proof.claim u px ws r px′ ws′ d
+-- Thirty-two bands (`decode_cue`, `parse_and_decode_spu`, `parse_chg_colcon_payload`): no reading has more, and 32 of a unit's bytes take at
+-- most 1,536 words, so that a record holds them all, with 0 after them. Where text, cue, stream, position and form are in order, scratch is long
+-- enough, and the blocks are listed and give the picture a size, 34 is returned exactly where the blocks have more; so for a unit, and for a
+-- payload where its list has more. Nothing is refused with 23.
+pub thirty-two-bands : (text file : List ℕ) (q : Wanted) (x : Reading) → IsReading text file q x → length (toldBy x .bands) ≤ 32
+thirty-two-bands text file q x h = h .unit-is .few
+
+pub words-of-32-bands : (u : List ℕ) → ((i : ℕ) → byte u i < 256) → (l : ListedUnit) → IsUnit u l
+    → (length (bandWords (told (l .blocks) .bands)) ≤ 1536) × (length (recordWords (told (l .blocks) .bands)) ≡ 1536)
+words-of-32-bands u s l h = let w = most-words-hold u s (l .blocks) (h .chain) (h .few) in (w, record-length (told (l .blocks) .bands) w)
+
+pub refused-34 : (text file : List ℕ) (q : Wanted) (b : Lent) (r : CanvasAnswer) (b′ : Lent)
+    → CuePainted text file q b r b′ → (t : ListedText) (c : Cue) (m : Form) (bs : List Block) → IsText text t
+    → q .stream ≤ top-stream → cueAt (cuesOf t) (q .cue) ≡ some c → c .position < length file
+    → IsForm (wantedId q) file (c .position) m → scratchFor m ≤ length (b .scratch) → IsChain (unitOf m) bs
+    → told bs .at .x1 ≤ told bs .at .x2 → told bs .at .y1 ≤ told bs .at .y2
+    → (r ≡ canvas-answer.Refused many-bands) ↔ (32 < length (told bs .bands))
+refused-34 = many-listed
+
+pub a-unit-34 : (u : List ℕ) (bs : List Block) → IsChain u bs → told bs .at .x1 ≤ told bs .at .x2 → told bs .at .y1 ≤ told bs .at .y2
+    → (px : List ℕ) (r : Record) (px′ : List ℕ) → unit.Decoded u px r px′ → (r .refused ≡ many-bands) ↔ (32 < length (told bs .bands))
+a-unit-34 = unit-many
+
+pub a-payload-34 : (s : List ℕ) → ((i : ℕ) → byte s i < 256) → (ws : List ℕ) (r : BandAnswer) (ws′ : List ℕ) → Stored s ws r ws′
+    → (r ≡ band-answer.Refused many-bands) ↔ ((bs : List Band) × Bands s (length s) 0 bs × (32 < length bs))
+a-payload-34 = bands-proof.payload-many
+
+pub never-23 : InTable 23 → ⊥
+never-23 = no-23
+
+-- A unit (`parse_and_decode_spu`, `measure_spu`): a record is given exactly where the grammar lists the unit and the map is long enough.
+pub a-unit : (u : List ℕ) → ((i : ℕ) → byte u i < 256) → (px : List ℕ) (r : Record) (px′ : List ℕ) → unit.Decoded u px r px′ → unit-claim.Says u px px′ r
+a-unit u s px r px′ d = unit-proof.claim u s px r px′ d
 
 pub a-unit-measured : (u : List ℕ) (r : SpuAnswer) → r ≡ unit.spuAnswer (unitAt u) → unit-claim.Measures u r
 a-unit-measured u r d = unit-proof.measures u r d
@@ -185,9 +222,9 @@ a-field s w h start px r px′ d = field-proof.claim s w h start px r px′ d
 pub one-field : (u : List ℕ) (e w p : ℕ) (a b : List (List Code)) → length a ≡ length b → FieldRows u e w p a → FieldRows u e w p b → a ≡ b
 one-field = field-unique
 
--- A payload of colour bands (`parse_chg_colcon_payload`): it is accepted exactly where the grammar lists bands and the words hold them.
-pub a-payload : (s : List ℕ) (at : ℕ) (ws : List ℕ) (r : BandAnswer) (ws′ : List ℕ) → Stored s at ws r ws′ → bands-claim.Says s at ws ws′ r
-a-payload s at ws r ws′ d = bands-proof.claim s at ws r ws′ d
+-- A payload of colour bands (`parse_chg_colcon_payload`): it is accepted exactly where the grammar lists bands, at most 32.
+pub a-payload : (s : List ℕ) → ((i : ℕ) → byte s i < 256) → (ws : List ℕ) (r : BandAnswer) (ws′ : List ℕ) → Stored s ws r ws′ → bands-claim.Says s ws ws′ r
+a-payload s h ws r ws′ d = bands-proof.claim s h ws r ws′ d
 
 pub one-payload : (u : List ℕ) (e p : ℕ) (a b : List Band) → Bands u e p a → Bands u e p b → a ≡ b
 one-payload = bands-unique

@@ -18,7 +18,7 @@ use Rattle.grammar.specs.Control.{Order, forced-start, start, stop, selectors, 
 use Rattle.grammar.specs.Record.{Told, told}
 use Rattle.control_model.specs.Fold.{untold, tell, tellBlock, tellChain}
 use Rattle.bands_model.specs.Bands.{bandsOf}
-use Rattle.bands_model.specs.Answers.{countOf, stored, Stored}
+use Rattle.bands_model.specs.Answers.{countOf, ListRead}
 use Rattle.bands_model.specs.declared.BandAnswer.{BandAnswer}
 use Rattle.bands_model.specs.declared.BandAnswer.the-variants as band-answer
 use Rattle.bands_model.proofs.Loops.{words-join}
@@ -52,29 +52,24 @@ change-is u L p o i e =
     let d = bands-listed u (p + word u p) (omega arith) (p + 2) (w .0) (omega arith) (w .1) in
     subst (Change u L p) (w .2) (record { head = leb-true (p + 2) L (a .0); small = m; fits = l; size = refl; reads = d .1 })
 
--- bands that fit are stored
-stored-fits : (s : List ℕ) (to : ℕ) (ws v : List ℕ) → bandsOf s ≡ ok v → to + length v ≤ length ws → stored s to ws ≡ ok v
-unfolding stored
-stored-fits s to ws v e h = rw (e, le-leb (to + length v) (length ws) h)
-
 module _ (u : List ℕ) (L p : ℕ) (o : Order) (c : Change u L p o) (s : List ℕ) (part : s ≡ slice (p + 2) (p + word u p) u) (to : ℕ) (ws : List ℕ) (room : to + length (orderWords o) ≤ length ws) where
-  fits-all : stored s to ws ≡ ok (orderWords o)
-  fits-all = stored-fits s to ws (orderWords o) (ap bandsOf part ∙ c .reads) room
+  reads-all : bandsOf s ≡ ok (orderWords o)
+  reads-all = ap bandsOf part ∙ c .reads
 
   -- what storing them asks for
   pub change-known : IsOk (bandsOf s) × (to + length (listed (bandsOf s)) ≤ length ws)
-  change-known = rw (ap bandsOf part ∙ c .reads) (tt, room)
+  change-known = rw reads-all (tt, room)
 
-  pub change-count : (n : ℕ) (r : BandAnswer) (ws′ : List ℕ) → Stored s to ws r ws′ → r ≡ band-answer.Words n → n ≡ length (orderWords o)
-  change-count n r ws′ q e = let z : band-answer.Words n ≡ band-answer.Words (0 + length (orderWords o)) = sym e ∙ q .answer ∙ ap (countOf 0) fits-all in let y : n ≡ 0 + length (orderWords o) = cc in omega arith
+  pub change-count : (n : ℕ) (r : BandAnswer) (ws′ : List ℕ) → ListRead s to ws r ws′ → r ≡ band-answer.Words n → n ≡ length (orderWords o)
+  change-count n r ws′ q e = let z : band-answer.Words n ≡ band-answer.Words (0 + length (orderWords o)) = sym e ∙ q .answer ∙ ap (countOf 0) reads-all in let y : n ≡ 0 + length (orderWords o) = cc in omega arith
 
-  pub change-filled : (z n : ℕ) (r : BandAnswer) (ws′ : List ℕ) → z ≡ word u p → Stored s to ws r ws′ → r ≡ band-answer.Words n
+  pub change-filled : (z n : ℕ) (r : BandAnswer) (ws′ : List ℕ) → z ≡ word u p → ListRead s to ws r ws′ → r ≡ band-answer.Words n
       → OrderFilled o p to ws (record { at = p + z; to = to + n }) ws′
   change-filled z n r ws′ y q e =
-      record { next = ap (λ (k : ℕ). p + k) (y ∙ sym (c .size)); place = ap (λ (k : ℕ). to + k) (change-count n r ws′ q e); words = q .words ∙ ap (λ (g : Res (List ℕ)). sets ws to (listed g)) fits-all }
+      record { next = ap (λ (k : ℕ). p + k) (y ∙ sym (c .size)); place = ap (λ (k : ℕ). to + k) (change-count n r ws′ q e); words = q .words (change-known .0) ∙ ap (λ (g : Res (List ℕ)). sets ws to (listed g)) reads-all }
 
-  pub change-kept : (k : ℕ) (r : BandAnswer) (ws′ : List ℕ) → Stored s to ws r ws′ → r ≡ band-answer.Refused k → ⊥
-  change-kept k r ws′ q e = let z : band-answer.Refused k ≡ band-answer.Words (0 + length (orderWords o)) = sym e ∙ q .answer ∙ ap (countOf 0) fits-all in let y : _≡_ {A = ℕ} 0 1 = cc in omega arith
+  pub change-kept : (k : ℕ) (r : BandAnswer) (ws′ : List ℕ) → ListRead s to ws r ws′ → r ≡ band-answer.Refused k → ⊥
+  change-kept k r ws′ q e = let z : band-answer.Refused k ≡ band-answer.Words (0 + length (orderWords o)) = sym e ∙ q .answer ∙ ap (countOf 0) reads-all in let y : _≡_ {A = ℕ} 0 1 = cc in omega arith
 
 -- ---- Any command
 

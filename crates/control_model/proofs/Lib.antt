@@ -6,5 +6,6 @@ pub mod Told
 pub mod Loops
 pub mod Refusals
 pub mod Fill
+pub mod Few
 pub mod Cards
 pub mod Clock

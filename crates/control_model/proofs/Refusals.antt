@@ -3,21 +3,23 @@ use Prim.Native.Nat.{ℕ, _+_, _-_, _≤_}
 use mathlib.Core.Path.{_≡_, refl}
 use mathlib.Core.Bool.{true, false, _&&_}
 use mathlib.Core.Option.{Option, some, none}
-use mathlib.Core.List.{List, [], _∷_}
+use mathlib.Core.List.{List, [], _∷_, _++_}
 use lib.Dec.{leb, ltb, eqb}
-use lib.ListN.{length}
+use lib.ListN.{length, take, replicate}
 use lib.Seq.{slice}
-use Rattle.outcome.specs.Outcome.{InTable, ok, refuse, Numbered, no-head, bad-head, cut-parameters, small-size, no-band-list, unknown-command, no-area}
+use Rattle.outcome.specs.Outcome.{InTable, ok, refuse, Numbered, no-head, bad-head, cut-parameters, small-size, no-band-list, unknown-command, no-area, many-bands}
 use Rattle.outcome.proofs.Numbers.{in-table, check-numbered, checked-numbered, cond-numbered, andThen-numbered, mapRes-numbered, only-numbered, list-numbered}
 use Rattle.outcome.proofs.Laws.{clash, and-true}
 use borrow.Author.Tests.{leb-true}
 use Rattle.grammar.specs.Bytes.{byte, word, nibble, nibbles}
 use Rattle.grammar.specs.Control.{colours, sizeOf, lengthWord, controlWord}
-use Rattle.grammar.specs.Record.{told}
+use Rattle.grammar.specs.Bands.{most-bands}
+use Rattle.grammar.specs.Record.{told, commandsOf, commandsIn, firstDelay, lastDelay, lastNumbers, stands, allBands}
 use Rattle.bands_model.specs.Bands.{bandsOf, entriesOf, header, entryOf}
 use Rattle.bands_model.proofs.Refusals.{bands-refuses}
 use Rattle.control_model.specs.Listed.{heldBands, bandsAt, held}
 use Rattle.control_model.specs.Chain.{plainAt, changeAt, orderAt, command, commandAt, commandsStop, nextCommand, commandsAt, block, blockAt, chainStop, chainBlock, chainNext, chainLeft, blocksAt, headFits, chainAt, hasArea, controlAt}
+use Rattle.control_model.specs.Few.{fewAt}
 use Rattle.control_model.proofs.Grammar.{command-falls, chain-falls}
 use Rattle.outcome.specs.Lists.{listFuel, listFrom}
 
@@ -108,3 +110,42 @@ pub orders :
     × (controlAt (unit 0x05 (0x05 ∷ 0x00 ∷ 0x10 ∷ 0x00 ∷ 0x00 ∷ 0x00 ∷ 0x00 ∷ 0x08 ∷ [])) ≡ refuse unknown-command)
 unfolding listFrom listFuel word nibbles nibble bandsAt bandsOf entriesOf header entryOf held plainAt changeAt orderAt commandAt commandsAt blockAt blocksAt headFits chainAt controlAt
 orders = (refl, refl, refl, refl, refl, refl, refl, refl, refl, refl, refl, refl, refl, refl, refl)
+
+-- ---- With the limit of bands
+
+pub few-numbered : (u : List ℕ) → Numbered (fewAt u)
+unfolding fewAt
+few-numbered u =
+    andThen-numbered InTable (controlAt u) _ (control-numbered u)
+    (λ bs. check-numbered InTable (leb (length (told bs .bands)) most-bands) many-bands (ok bs) (in-table many-bands refl) tt)
+
+-- a unit with one byte of field and a block at 5, whose first command is a colour change of 33 bands without entries; these bytes follow
+abbrev bands-33 : List ℕ → List ℕ
+bands-33 cs = 0x00 ∷ (144 + length cs) ∷ 0x00 ∷ 0x05 ∷ 0x70 ∷ 0x00 ∷ 0x00 ∷ 0x00 ∷ 0x05 ∷ 0x07 ∷ 0x00 ∷ 0x86 ∷ replicate 132 0x00 ++ cs
+
+-- one with two blocks, of a colour change each
+abbrev two-blocks : List ℕ → List ℕ → List ℕ
+two-blocks a b =
+    0x00 ∷ (21 + length a + length b) ∷ 0x00 ∷ 0x05 ∷ 0x70 ∷ 0x00 ∷ 0x00 ∷ 0x00 ∷ (13 + length a) ∷ 0x07 ∷ 0x00 ∷ (2 + length a)
+    ∷ a ++ 0xFF ∷ 0x00 ∷ 0x00 ∷ 0x00 ∷ (13 + length a) ∷ 0x07 ∷ 0x00 ∷ (2 + length b) ∷ b ++ 0xFF ∷ []
+
+-- each order of FORMAT 9 with 34: a unit on which both are true, and the number that is given, as the whole chain is read first
+pub few-orders :
+    -- 16, and 34
+    (fewAt (take 143 (bands-33 (0xFF ∷ []))) ≡ refuse bad-head)
+    -- 17, and 34
+    × (fewAt (bands-33 (0x03 ∷ 0x00 ∷ [])) ≡ refuse cut-parameters)
+    -- 18, and 34
+    × (fewAt (bands-33 (0x07 ∷ 0x00 ∷ 0x01 ∷ 0xFF ∷ [])) ≡ refuse small-size)
+    -- 19, and 34
+    × (fewAt (bands-33 (0x07 ∷ 0x00 ∷ 0x03 ∷ 0x00 ∷ 0xFF ∷ [])) ≡ refuse no-band-list)
+    -- 20, and 34
+    × (fewAt (bands-33 (0x08 ∷ 0xFF ∷ [])) ≡ refuse unknown-command)
+    -- 21, and 34
+    × (fewAt (bands-33 (0x05 ∷ 0x00 ∷ 0x10 ∷ 0x00 ∷ 0x00 ∷ 0x00 ∷ 0x00 ∷ 0xFF ∷ [])) ≡ refuse no-area)
+    -- 34 alone
+    × (fewAt (bands-33 (0xFF ∷ [])) ≡ refuse many-bands)
+    -- 17 bands in one block, and 16 in the next
+    × (fewAt (two-blocks (replicate 68 0x00) (replicate 64 0x00)) ≡ refuse many-bands)
+unfolding fewAt listFrom listFuel word nibbles nibble bandsAt bandsOf entriesOf header entryOf held plainAt changeAt orderAt commandAt commandsAt blockAt blocksAt headFits chainAt controlAt told commandsOf commandsIn firstDelay lastDelay lastNumbers stands allBands
+few-orders = (refl, refl, refl, refl, refl, refl, refl, refl)

@@ -3,3 +3,4 @@ pub mod Listed
 pub mod Chain
 pub mod Answers
 pub mod Fill
+pub mod Few

@@ -1,11 +1,13 @@
-// Control blocks without their functions: the record `Spu`, the answers, the definitions and their laws, and the words of all bands of a unit.
+// Control blocks without their functions: what they tell, the answers, the definitions and their laws, and the words of
+// all bands of a unit.
 
 use clock_model::Ticks;
 
-// The record of a unit, by the names of the original.
+// What the commands of a unit tell and what its rows count: the record of a unit, by the names of the original, but for
+// the words of its bands, which do not go from command to command.
 pub struct Spu {
-    // The wide numbers come first and the flags last, so that no byte of the record is unused: unused ones would be
-    // carried from command to command too.
+    // The wide numbers come first and the flags last, so that no byte is unused: unused ones would be carried from
+    // command to command too.
     // The codes of both fields; 0 until the rows are read.
     pub codes: usize,
     // How many words the bands of all colour changes take. It parts the two numbers of codes: side by side the compiler
@@ -41,6 +43,14 @@ pub enum CommandAnswer {
     Next { at: usize, spu: Spu },
     // The number of the refusal.
     Refused(u8),
+}
+
+// The bands of a unit, kept in an array.
+pub struct UnitBands {
+    // The number of the refusal; 0 where there is none.
+    pub refused: u8,
+    // Their words, and 0 after them; 0 in all of it beside a refusal.
+    pub words: [u16; 1536],
 }
 
 // What control blocks tell.

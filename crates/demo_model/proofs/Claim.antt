@@ -10,15 +10,15 @@ use lib.Dec.{eqb, leb}
 use borrow.Author.Tests.{leb-true, eqb-true}
 use Rattle.outcome.specs.Outcome.{Res, ok, refuse, listed, bad-side, not-all-indices, bad-index, long-unit, short-output}
 use Rattle.outcome.proofs.Laws.{ok-injective, and-true, check-ok, andThen-ok}
-use Rattle.grammar.specs.Bands.{bandWords}
+use Rattle.grammar.specs.Bands.{bandWords, recordWords}
 use Rattle.grammar.specs.Pixels.{indexMap, codesIn, clippedIn}
 use Rattle.grammar.specs.Record.{Told, told, width, height}
 use Rattle.grammar.specs.Picture.{ListedUnit, IsUnit}
 use Rattle.control_model.specs.Answers.{spuOf}
+use Rattle.control_model.specs.declared.Spu.{Spu}
 use Rattle.spu_model.specs.Unit.{unitIn, countsOf}
-use Rattle.spu_model.specs.Answers.{spuAnswer, unitMap, unitBands, Decoded}
-use Rattle.spu_model.specs.declared.SpuAnswer.{SpuAnswer}
-use Rattle.spu_model.specs.declared.SpuAnswer.the-variants as spu-answer
+use Rattle.spu_model.specs.Answers.{recordOf, recordGiven, unitMap, Decoded}
+use Rattle.spu_model.specs.declared.Record.{Record}
 use Rattle.spu_model.proofs.Grammar.{unit-iff, unit-unique}
 use Rattle.spu_model.proofs.Claim.{in-complete}
 use Rattle.demo_model.specs.Codes.{lastMarks, marksIn, pictureRows}
@@ -30,9 +30,6 @@ use Rattle.demo_model.proofs.Marks.{fill-closes}
 use Rattle.demo_model.proofs.Unit.{Back, back}
 use Rattle.demo_model.proofs.Whole.{demo-sound}
 use Rattle.rle_model.specs.declared.Counts.{Counts}
-
-abbrev spuAnswerOf : Told → Counts → SpuAnswer
-spuAnswerOf t n = spu-answer.Shows (spuOf t n)
 
 module _ (w h : ℕ) (px : List ℕ) (n : ℕ) (u : List ℕ) (e : demoAt w h px n ≡ ok u) where
   -- an accepted picture
@@ -84,30 +81,33 @@ module _ (w h : ℕ) (px : List ℕ) (n : ℕ) (u : List ℕ) (e : demoAt w h px
   codes-written l i = ap (λ (k : ListedUnit). codesIn (k .rows)) (unit-unique u l (read .list) i (lists .listed)) ∙ read .codes
 
   -- and reading gives it back
-  reads : (map ws : List ℕ) → w * h ≤ length map → (r : SpuAnswer) (map′ ws′ : List ℕ) → Decoded u map ws r map′ ws′ → ReadsBack w h px (read .list) map ws r map′ ws′
-  unfolding bandWords spuOf
-  reads map ws l r map′ ws′ d =
+  reads : (map : List ℕ) → w * h ≤ length map → (r : Record) (map′ : List ℕ) → Decoded u map r map′ → ReadsBack w h px (read .list) map r map′
+  unfolding recordWords bandWords spuOf
+  reads map l r map′ d =
       let b = read in
       let t : Told = writtenTold w h (4 + length (topNibbles lastMarks w h px) / 2) in
       let n : Counts = countsOf (b .list) in
-      let z : length (bandWords (told (b .list .blocks) .bands)) ≡ 0 = ap (λ (q : Told). length (bandWords (q .bands))) (b .tells) in
       let room : width (told (b .list .blocks)) * height (told (b .list .blocks)) ≤ length map = rw (wide-is, high-is) l in
       let f = unit-iff (unitOf lastMarks w h px) (b .list) .1 (b .listed) in
-      let g : unitIn u (length map) (length ws) ≡ ok (b .list) = subst (λ (v : List ℕ). unitIn v (length map) (length ws) ≡ ok (b .list)) (taken .unit) (in-complete (unitOf lastMarks w h px) (length map) (length ws) (b .list) f (room, omega arith)) in
+      let g : unitIn u (length map) ≡ ok (b .list) = subst (λ (v : List ℕ). unitIn v (length map) ≡ ok (b .list)) (taken .unit) (in-complete (unitOf lastMarks w h px) (length map) (b .list) f room) in
+      let e : r ≡ recordOf t n = d .answer ∙ ap recordGiven g ∙ ap (λ (q : Told). recordOf q n) (b .tells) in
+      let s : r .spu ≡ spuOf t n = ap (λ (q : Record). q .spu) e in
       let a = taken .sound .wide in
       let c = taken .sound .high in
+      let x2 : r .spu .x2 ≡ w - 1 = ap (λ (q : Spu). q .x2) s in
+      let y2 : r .spu .y2 ≡ h - 1 = ap (λ (q : Spu). q .y2) s in
       record {
-        says = spuOf t n;
-        shows = d .answer ∙ ap spuAnswer g ∙ ap (λ (q : Told). spuAnswerOf q n) (b .tells);
-        x1 = refl;
-        y1 = refl;
+        accepted = ap (λ (q : Record). q .refused) e;
+        x1 = ap (λ (q : Spu). q .x1) s;
+        y1 = ap (λ (q : Spu). q .y1) s;
         wide = omega arith;
         high = omega arith;
-        codes = refl;
-        clipped = ap (λ (k : ℕ). clippedIn k (b .list .rows)) wide-is ∙ b .clipped;
-        others = refl;
+        codes = ap (λ (q : Spu). q .codes) s;
+        clipped = ap (λ (q : Spu). q .clipped) s ∙ ap (λ (k : ℕ). clippedIn k (b .list .rows)) wide-is ∙ b .clipped;
+        others = s;
+        bands = ap (λ (q : Record). q .bands) e ∙ ap recordWords (sym (ap (λ (q : Told). q .bands) (b .tells)));
+        no-band = ap (λ (q : Told). q .bands) (b .tells);
         pixels = d .pixels ∙ ap (λ (q : Res ListedUnit). sets map 0 (unitMap q)) g ∙ ap (sets map 0) (lists .picture);
-        words = d .words ∙ ap (λ (q : Res ListedUnit). sets ws 0 (unitBands q)) g ∙ ap (λ (q : Told). sets ws 0 (bandWords (q .bands))) (b .tells);
       }
 
   round-trip : RoundTrip w h px u

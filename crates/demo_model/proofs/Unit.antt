@@ -357,6 +357,7 @@ module _ (last : ℕ → ℕ → List Mark) (closes : Closes last) (w h : ℕ) (
         listed =
             record {
               chain = control-chain w h second fields wide w-most high h-most small-unit;
+              few = omega arith;
               picture =
                   record {
                     wide = omega arith;

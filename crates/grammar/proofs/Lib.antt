@@ -12,6 +12,8 @@ pub mod ReadingLine
 pub mod Readings
 pub mod Edges
 pub mod Lengths
+pub mod Limit
+pub mod BandCards
 pub mod Clipped
 pub mod IndexCards
 pub mod Times

@@ -11,12 +11,13 @@ use mathlib.Core.Option.{some, none}
 use mathlib.Core.List.{List, [], _∷_, _++_}
 use lib.IntN.{pos}
 use lib.Dec.{ltb}
+use lib.ListN.{length}
 use Rattle.grammar.specs.Bytes.{word, nibble, nibbles}
 use Rattle.grammar.specs.IndexParts.{tokenByte, unlike}
 use Rattle.grammar.specs.IndexNumbers.{isDigit, numeral, Hex}
 use Rattle.grammar.specs.Index.{Said, palette, startOf, top-token, Says, IsLines, greysFrom, greys, of-lines, no-bytes}
 use Rattle.grammar.specs.IndexCues.{cuesOfLines, coloursOf, paletteFrom, cueAt, durationOf}
-use Rattle.grammar.specs.Bands.{Band, Bands, Entries, entryWords, bandWords}
+use Rattle.grammar.specs.Bands.{Band, Bands, Entries, entryWords, bandWords, most-bands}
 use Rattle.grammar.specs.Control.{Order, start, stop, selectors, alphas, area, offsets, colours, Command, Commands, Chain, IsChain}
 use Rattle.grammar.specs.Record.{told, commandsOf, commandsIn, firstDelay, lastDelay, lastNumbers, stands, allBands}
 use Rattle.grammar.specs.Look.{rightmost, lastLook, lookAt}
@@ -103,6 +104,10 @@ small-chain =
       );
     }
 
+small-few : length (told (small-unit .blocks) .bands) ≤ most-bands
+unfolding told commandsOf commandsIn allBands
+small-few = omega arith
+
 small-picture : IsPicture small-file (told (small-unit .blocks)) (small-unit .rows)
 unfolding word nibble nibbles evens topEnd FieldRows RowCodes afterCodes align paints told commandsOf commandsIn firstDelay lastDelay lastNumbers stands allBands
 small-picture =
@@ -142,7 +147,7 @@ small-passes s h =
       listed = refl;
       before-end = omega arith;
       form-is = (record { four = omega arith; least = omega arith; fits = omega arith }, record { place-is = refl; bytes-are = refl });
-      unit-is = record { chain = small-chain; picture = small-picture };
+      unit-is = record { chain = small-chain; few = small-few; picture = small-picture };
       show-stays = small-times .0;
       hide-stays = small-times .1;
     }
@@ -209,7 +214,7 @@ alone-passes s h =
         record { four = omega arith; least = omega arith; fits = omega arith },
         record { place-is = refl; bytes-are = refl },
       );
-      unit-is = record { chain = small-chain; picture = small-picture };
+      unit-is = record { chain = small-chain; few = small-few; picture = small-picture };
       show-stays = alone-times .0;
       hide-stays = alone-times .1;
     }
@@ -453,6 +458,10 @@ packed-chain =
       );
     }
 
+packed-few : length (told (packed-unit .blocks) .bands) ≤ most-bands
+unfolding told commandsOf commandsIn allBands
+packed-few = omega arith
+
 packed-picture : IsPicture packed-bytes (told (packed-unit .blocks)) (packed-unit .rows)
 unfolding word nibble nibbles evens topEnd Stay0 FieldRows RowCodes afterCodes align paints told commandsOf commandsIn firstDelay lastDelay lastNumbers stands allBands
 packed-picture =
@@ -487,7 +496,7 @@ packed-passes =
       listed = refl;
       before-end = omega arith;
       form-is = packed-form;
-      unit-is = record { chain = packed-chain; picture = packed-picture };
+      unit-is = record { chain = packed-chain; few = packed-few; picture = packed-picture };
       show-stays = packed-times .0;
       hide-stays = packed-times .1;
     }
@@ -581,6 +590,10 @@ timed-chain =
       );
     }
 
+timed-few : length (told (timed-unit .blocks) .bands) ≤ most-bands
+unfolding told commandsOf commandsIn allBands
+timed-few = omega arith
+
 timed-picture : IsPicture timed-file (told (timed-unit .blocks)) (timed-unit .rows)
 unfolding word nibble nibbles evens topEnd Stay0 FieldRows RowCodes afterCodes align paints told commandsOf commandsIn firstDelay lastDelay lastNumbers stands allBands
 timed-picture =
@@ -618,7 +631,7 @@ timed-passes =
         record { four = omega arith; least = omega arith; fits = omega arith },
         record { place-is = refl; bytes-are = refl },
       );
-      unit-is = record { chain = timed-chain; picture = timed-picture };
+      unit-is = record { chain = timed-chain; few = timed-few; picture = timed-picture };
       show-stays = timed-times .0;
       hide-stays = timed-times .1;
     }

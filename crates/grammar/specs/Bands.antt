@@ -1,10 +1,10 @@
 -- The colour bands of a colour change: conditions on a finished list of bands, and the words that they are stored as (FORMAT 4).
 -- They find no band. Assumes nothing: these are definitions.
-use Prim.Native.Nat.{ℕ, suc, _+_, _*_, _/_, _%_, _≤_, _<_}
+use Prim.Native.Nat.{ℕ, suc, _+_, _-_, _*_, _/_, _%_, _≤_, _<_}
 use mathlib.Core.Path.{_≡_}
 use mathlib.Core.Logic.{_⊎_}
 use mathlib.Core.List.{List, [], _∷_, _++_}
-use lib.ListN.{length}
+use lib.ListN.{length, replicate}
 use Rattle.grammar.specs.Bytes.{word}
 
 -- an entry: where it stands, its start column, and the words of its four selectors and its four alphas
@@ -71,3 +71,14 @@ entryWords (x ∷ xs) = x .column ∷ x .selectors ∷ x .alphas ∷ entryWords 
 unfoldable pub bandWords : List Band → List ℕ
 bandWords [] = []
 bandWords (b ∷ bs) = b .first ∷ b .last ∷ b .count ∷ entryWords (b .entries) ++ bandWords bs
+
+-- the most bands that a unit has, and the most words that so many take (FORMAT 4.5)
+abbrev pub most-bands : ℕ
+most-bands = 32
+
+abbrev pub most-words : ℕ
+most-words = 1536
+
+-- the words of bands as a record holds them: 0 after the last
+unfoldable pub recordWords : List Band → List ℕ
+recordWords bs = bandWords bs ++ replicate (most-words - length (bandWords bs)) 0

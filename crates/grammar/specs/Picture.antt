@@ -7,6 +7,7 @@ use mathlib.Core.Logic.{_⊎_}
 use mathlib.Core.List.{List, [], _∷_}
 use lib.ListN.{length, drop}
 use lib.Dec.{ltb}
+use Rattle.grammar.specs.Bands.{most-bands}
 use Rattle.grammar.specs.Rows.{Code, FieldRows}
 use Rattle.grammar.specs.Control.{Block, controlWord, IsChain}
 use Rattle.grammar.specs.Record.{Offsets, Told, told, width, height}
@@ -49,6 +50,8 @@ pub record ListedUnit : Type 0 where
   pub blocks : List Block
   pub rows : List (List Code)
 
+-- the bands of all its colour changes are not too many (FORMAT 3.7)
 pub record IsUnit (u : List ℕ) (l : ListedUnit) : Type 0 where
   pub chain : IsChain u (l .blocks)
+  pub few : length (told (l .blocks) .bands) ≤ most-bands
   pub picture : IsPicture u (told (l .blocks)) (l .rows)

@@ -106,7 +106,7 @@ shown r =
       clipped = clippedIn (width (toldBy r)) (r .unit .rows);
     }
 
--- the index map, the words of all bands, and the canvas
+-- the index map, the words of all bands, which its unit's record has, and the canvas
 unfoldable pub mapOf : Reading → List ℕ
 mapOf r = indexMap (width (toldBy r)) (r .unit .rows)
 
@@ -122,9 +122,8 @@ unitCanvas palette l =
 unfoldable pub canvasOf : Reading → List ℕ
 canvasOf r = unitCanvas (paletteOf (r .text)) (r .unit)
 
--- scratch, map, words and canvas of these lengths are long enough (FORMAT 6.6)
-pub record LongEnough (r : Reading) (scratch pixels words canvas : ℕ) : Type 0 where
+-- scratch, map and canvas of these lengths are long enough (FORMAT 6.6)
+pub record LongEnough (r : Reading) (scratch pixels canvas : ℕ) : Type 0 where
   pub for-unit : scratchFor (r .form) ≤ scratch
   pub for-map : width (toldBy r) * height (toldBy r) ≤ pixels
-  pub for-bands : length (wordsOf r) ≤ words
   pub for-canvas : 4 * (width (toldBy r) * height (toldBy r)) ≤ canvas

@@ -21,6 +21,7 @@ use Rattle.rle_model.specs.Codes.{codeFrom, codeAt, rowAt, fieldAt}
 use Rattle.rle_model.specs.Field.{rowsFrom}
 use Rattle.rle_model.specs.Fields.{weave, lowerAt, fieldsAt}
 use Rattle.control_model.specs.Chain.{plainAt, changeAt, orderAt, commandAt, commandsAt, blockAt, blocksAt, headFits, chainAt, controlAt}
+use Rattle.control_model.specs.Few.{fewAt}
 use Rattle.control_model.specs.Answers.{spuOf}
 use Rattle.spu_model.specs.Unit.{rowsAt, unitAt}
 use Rattle.listing_model.specs.Lines.{digitsIn, decimal, shownLine, refusedLine, cuesLine, indexLine, fileLine}
@@ -83,5 +84,5 @@ from z = record { start = pos z; position = 0 } ∷ []
 pub late-listed :
     (refusalOf (shownFor (from 9223372036854764430) late 0) ≡ 0)
     × (refusalOf (shownFor (from 9223372036854764431) late 0) ≡ long-instant)
-unfolding shownFor timedFor timesStay unitFor unitAt cueAt durationOf formAt isBare unitOf rowsAt fieldsAt lowerAt fieldAt rowAt codeAt codeFrom rowsFrom weave paints afterCodes align topEnd listFrom listFuel word nibbles nibble plainAt changeAt orderAt commandAt commandsAt blockAt blocksAt headFits chainAt controlAt told commandsOf commandsIn firstDelay lastDelay lastNumbers stands allBands
+unfolding shownFor timedFor timesStay unitFor unitAt fewAt cueAt durationOf formAt isBare unitOf rowsAt fieldsAt lowerAt fieldAt rowAt codeAt codeFrom rowsFrom weave paints afterCodes align topEnd listFrom listFuel word nibbles nibble plainAt changeAt orderAt commandAt commandsAt blockAt blocksAt headFits chainAt controlAt told commandsOf commandsIn firstDelay lastDelay lastNumbers stands allBands
 late-listed = (refl, refl)

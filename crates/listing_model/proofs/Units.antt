@@ -23,7 +23,8 @@ use Rattle.clock_model.specs.Answers.{delayed, timesAnswer}
 use Rattle.clock_model.specs.declared.Times.{Times}
 use Rattle.clock_model.specs.declared.TimesAnswer.{TimesAnswer}
 use Rattle.clock_model.specs.declared.TimesAnswer.the-variants as times-answer
-use Rattle.control_model.specs.Chain.{controlAt}
+use Rattle.control_model.specs.Few.{fewAt}
+use Rattle.control_model.proofs.Few.{few-iff}
 use Rattle.control_model.proofs.Clock.{told-stay, told-leave}
 use Rattle.control_model.specs.Answers.{spuOf}
 use Rattle.control_model.specs.declared.Spu.{Spu}
@@ -142,10 +143,10 @@ shows-sides u r s d q = go (unitAt u) refl (sym q ∙ d)
     go : (x : Res ListedUnit) → unitAt u ≡ x → spu-answer.Shows s ≡ spuAnswer x → (s .x1 ≤ s .x2) × (s .y1 ≤ s .y2)
     go (refuse m) g f = let z : _≡_ {A = ℕ} 0 1 = cc in absurd (omega arith)
     go (ok l) g f =
-        let a = andThen-ok (controlAt u) _ g in
+        let a = andThen-ok (fewAt u) _ g in
         let bs = a .0 in
         let m = mapRes-ok (listedUnit bs) (rowsAt u (told bs)) (a .2) in
-        let y = known u (spuOf (told bs) nothing) (bs, a .1, refl) in
+        let y = known u (spuOf (told bs) nothing) (bs, few-iff u bs .0 (a .1) .0, refl) in
         let t : s ≡ spuOf (told bs) (listedCounts (width (told bs)) (m .0)) = let z : s ≡ spuOf (told (l .blocks)) (countsOf l) = cc in z ∙ ap (λ (v : ListedUnit). spuOf (told (v .blocks)) (countsOf v)) (sym (m .2)) in
         (subst (λ (v : Spu). v .x1 ≤ v .x2) (sym t) (y .wide), subst (λ (v : Spu). v .y1 ≤ v .y2) (sym t) (y .high))
 

@@ -1,4 +1,4 @@
-// What stored colour bands give at a place of the display (docs/FORMAT.md, 4.6).
+// What stored colour bands give at a place of the display (docs/FORMAT.md, 4.6), and how many they are.
 use bands_model::LookAnswer;
 use outcome::lesser;
 ghost use mathlib.Core.Path.{_≡_};
@@ -7,6 +7,7 @@ ghost use lib.ListN.{length, getD, drop};
 ghost use lib.Dec.{leb};
 ghost use mathlib.Core.Bool.{_&&_};
 ghost use Rattle.bands_model.specs.Look.{told, pickEntry, entriesLook, bandLook, lookWords, spansLine};
+ghost use Rattle.bands_model.specs.Count.{bandsHeld};
 
 // An entry that starts at the column or left of it, or what was found before it.
 fn pick_entry(x: u16, column: u16, selectors: u16, alphas: u16, before: LookAnswer) -> LookAnswer
@@ -92,4 +93,20 @@ pub fn spans_line(words: &[u16], y: u16) -> bool
         at = next + 3 * n;
     }
     false
+}
+
+// How many bands are stored. Any words are read.
+// Ruled out: a band's entries taken for headers; a band without entries left out.
+pub fn count_bands(words: &[u16]) -> usize
+    ensures { λ r. ⌜ r ≡ bandsHeld (now (words .entry)) ⌝ }
+{
+    let mut at: usize = 0;
+    let mut bands: usize = 0;
+    while 3 <= words.len() - at {
+        let next = at + 3;
+        let n = lesser(words[at + 2] as usize, (words.len() - next) / 3);
+        at = next + 3 * n;
+        bands += 1;
+    }
+    bands
 }

@@ -3,12 +3,13 @@
 // A line of standard input is a row: the function, its name, its numbers and its bytes, with a bar between them. The
 // numbers:
 // read_code: a place, the pixels left. read_through, align_through: a place. chg_colcon_lookup: column, line; the bands
-// are those of the bytes, or the words that stand behind another bar. measure_spu: none. extract_spu: position, stream,
-// scratch; the bytes are the head of a file of 65,555 bytes, each i % 251, and those behind another bar stand at
-// 32,774. build_demo_spu: width, height, output, and for a picture that code builds its size, n, p and k: bytes 1 and 2
-// in turn, n at a time, but from 126,976 on p of them in pairs; or, where k is not 0, each of the first k pictures,
-// whose bytes are the digits of its number to base 4. converted: ticks. times_of: the start, as 0 and the number, or as
-// 1 and how far it is above -2^63; then 1 or 0 and a delay for the start command, and the same for the stop command.
+// are those of the bytes, or the words that stand behind another bar. count_bands: none; the words stand there too.
+// measure_spu: none. extract_spu: position, stream, scratch; the bytes are the head of a file of 65,555 bytes, each
+// i % 251, and those behind another bar stand at 32,774. build_demo_spu: width, height, output, and for a picture that
+// code builds its size, n, p and k: bytes 1 and 2 in turn, n at a time, but from 126,976 on p of them in pairs; or,
+// where k is not 0, each of the first k pictures, whose bytes are the digits of its number to base 4. converted: ticks.
+// times_of: the start, as 0 and the number, or as 1 and how far it is above -2^63; then 1 or 0 and a delay for the start
+// command, and the same for the stop command.
 use bands_model::BandAnswer;
 use bands_model::LookAnswer;
 use clock_model::Micros;
@@ -196,6 +197,11 @@ fn look(words: &[u16], n: usize, x: u16, y: u16) {
     }
 }
 
+// The same of an array.
+fn look_in(words: &[u16; 1536], n: usize, x: u16, y: u16) {
+    look(words, n, x, y);
+}
+
 // The words that numbers with blanks between them write, and how many there are.
 fn written(s: &[u8], words: &mut [u16]) -> usize {
     let mut n = 0;
@@ -210,16 +216,29 @@ fn written(s: &[u8], words: &mut [u16]) -> usize {
     n
 }
 
+// How many bands the first n words hold.
+fn held(words: &[u16], n: usize) {
+    if n <= words.len() {
+        said(b": bands @", look::count_bands(&words[..n]));
+    }
+}
+
+fn count_row(line: &[u8]) {
+    let mut words = [0; 1536];
+    let n = written(table::part(line, b'|', 4), &mut words);
+    held(&words, n);
+}
+
 fn look_row(line: &[u8], payload: &[u8], x: usize, y: usize) {
-    let mut words = [0; 64];
+    let mut words = [0; 1536];
     let n = written(table::part(line, b'|', 4), &mut words);
     if 0 < n {
         look(&words, n, (x % 65536) as u16, (y % 65536) as u16);
         return;
     }
-    match chg_colcon::parse_chg_colcon_payload(payload, &mut words, 0) {
+    match chg_colcon::parse_chg_colcon_payload(payload, &mut words) {
         BandAnswer::Words(count) => {
-            look(&words, count, (x % 65536) as u16, (y % 65536) as u16);
+            look_in(&words, count, (x % 65536) as u16, (y % 65536) as u16);
         }
         BandAnswer::Refused(refusal) => {
             refused(refusal);
@@ -359,20 +378,18 @@ fn is_sized(s: Spu, width: usize, height: usize) -> bool {
 // The number of codes that a unit is read back with, 0 where it is not read back as it was written or has a clipped
 // code.
 fn back(unit: &[u8], width: usize, height: usize, indices: &[u8], map: &mut [u8]) -> usize {
-    let mut words = [0; 1];
-    match spu::parse_and_decode_spu(unit, map, &mut words) {
-        SpuAnswer::Shows(s) => {
-            if is_sized(s, width, height) {
-                if same(indices, map) {
-                    if s.clipped == 0 {
-                        return s.codes;
-                    }
+    let record = spu::parse_and_decode_spu(unit, map);
+    let s = record.spu;
+    if record.refused == 0 {
+        if is_sized(s, width, height) {
+            if same(indices, map) {
+                if s.clipped == 0 {
+                    return s.codes;
                 }
             }
-            0
         }
-        SpuAnswer::Refused(_) => 0,
     }
+    0
 }
 
 fn told_back(codes: usize) {
@@ -520,6 +537,9 @@ fn asked(line: &[u8], bytes: &[u8]) {
     }
     if starts(line, b"chg_colcon_lookup|") {
         look_row(line, bytes, a, b);
+    }
+    if starts(line, b"count_bands|") {
+        count_row(line);
     }
     if starts(line, b"measure_spu|") {
         measured(bytes);

@@ -10,12 +10,16 @@ use Rattle.outcome.specs.Outcome.{Res, ok, refuse, refusals, isOneOf, In
 use Rattle.outcome.proofs.Laws.{clash}
 use Rattle.outcome.specs.Lists.{listFuel, listFrom}
 
--- 1 to 33, each once, 32 before 11 and 33 after 26
+-- 1 to 34 without 23, each once: 32 before 11, 34 before 22 and 33 after 26
 pub table :
     refusals
-    ≡ 1 ∷ 2 ∷ 3 ∷ 4 ∷ 5 ∷ 6 ∷ 7 ∷ 8 ∷ 9 ∷ 10 ∷ 32 ∷ 11 ∷ 12 ∷ 13 ∷ 14 ∷ 15 ∷ 16 ∷ 17 ∷ 18 ∷ 19 ∷ 20 ∷ 21 ∷ 22 ∷ 23 ∷ 24
+    ≡ 1 ∷ 2 ∷ 3 ∷ 4 ∷ 5 ∷ 6 ∷ 7 ∷ 8 ∷ 9 ∷ 10 ∷ 32 ∷ 11 ∷ 12 ∷ 13 ∷ 14 ∷ 15 ∷ 16 ∷ 17 ∷ 18 ∷ 19 ∷ 20 ∷ 21 ∷ 34 ∷ 22 ∷ 24
     ∷ 25 ∷ 26 ∷ 33 ∷ 27 ∷ 28 ∷ 29 ∷ 30 ∷ 31 ∷ []
 table = refl
+
+-- nothing is refused with 23
+pub no-23 : InTable 23 → ⊥
+no-23 h = clash (isOneOf 23 refusals) (h .listed-there) refl
 
 pub in-table : (n : ℕ) → isOneOf n refusals ≡ true → InTable n
 in-table n h = record { listed-there = h }

@@ -78,11 +78,11 @@ unknown-command = 20
 abbrev pub no-area : ℕ
 no-area = 21
 
+abbrev pub many-bands : ℕ
+many-bands = 34
+
 abbrev pub short-pixels : ℕ
 short-pixels = 22
-
-abbrev pub short-words : ℕ
-short-words = 23
 
 abbrev pub short-canvas : ℕ
 short-canvas = 24
@@ -116,7 +116,7 @@ abbrev pub refusals : List ℕ
 refusals =
     high-byte ∷ bad-width ∷ bad-height ∷ bad-token ∷ no-time ∷ no-position ∷ bad-time ∷ long-time ∷
     bad-position ∷ short-cues ∷ bad-stream ∷ no-cue ∷ past-file ∷ no-unit ∷ short-scratch ∷ no-head ∷ bad-head ∷
-    cut-parameters ∷ small-size ∷ no-band-list ∷ unknown-command ∷ no-area ∷ short-pixels ∷ short-words ∷
+    cut-parameters ∷ small-size ∷ no-band-list ∷ unknown-command ∷ no-area ∷ many-bands ∷ short-pixels ∷
     short-canvas ∷ no-top-field ∷ field-ran-out ∷ long-instant ∷ bad-side ∷ not-all-indices ∷ bad-index ∷
     long-unit ∷ short-output ∷ []
 

@@ -69,11 +69,11 @@ pub const UNKNOWN_COMMAND: u8 = 20;
 // A picture's last column or line is before its first.
 pub const NO_AREA: u8 = 21;
 
+// A unit, or a payload, has more than 32 bands.
+pub const MANY_BANDS: u8 = 34;
+
 // The lent index map is shorter than width times height.
 pub const SHORT_PIXELS: u8 = 22;
-
-// The lent words are too few for the bands.
-pub const SHORT_WORDS: u8 = 23;
 
 // The lent canvas is shorter than four times width times height.
 pub const SHORT_CANVAS: u8 = 24;

@@ -33,11 +33,15 @@ fn mixed_bytes(sum: u64, s: &[u8]) -> u64 {
     t
 }
 
-fn mixed_words(sum: u64, s: &[u16]) -> u64 {
+fn mixed_word(sum: u64, w: u16) -> u64 {
+    mixed(sum, w as u64)
+}
+
+fn mixed_words(sum: u64, s: &[u16; 1536]) -> u64 {
     let mut t = sum;
     let mut i = 0;
-    while i < s.len() {
-        t = mixed(t, s[i] as u64);
+    while i < 1536 {
+        t = mixed_word(t, s[i]);
         i += 1;
     }
     t
@@ -124,10 +128,11 @@ fn packets(bytes: &[u8], position: usize, stream: usize, scratch: &mut [u8], e: 
     as_expected(e, r, mixed_bytes(s, scratch))
 }
 
-fn bands(bytes: &[u8], at: usize, words: &mut [u16], e: Expected) -> bool {
+fn bands(bytes: &[u8], e: Expected) -> bool {
+    let mut words = [WORD; 1536];
     let mut count: usize = NUMBER;
-    let r = vobsub_c::vobsub_parse_chg_colcon_payload(bytes, words, at, &mut count);
-    as_expected(e, r, mixed_words(mixed(1, count as u64), words))
+    let r = vobsub_c::vobsub_parse_chg_colcon_payload(bytes, &mut words, &mut count);
+    as_expected(e, r, mixed_words(mixed(1, count as u64), &words))
 }
 
 fn field(
@@ -153,11 +158,12 @@ fn field(
     as_expected(e, r, mixed_bytes(s, map))
 }
 
-fn unit(bytes: &[u8], map: &mut [u8], words: &mut [u16], e: Expected) -> bool {
+fn unit(bytes: &[u8], map: &mut [u8], e: Expected) -> bool {
+    let mut words = [WORD; 1536];
     let mut numbers: [usize; 17] = [NUMBER; 17];
-    let r = vobsub_c::vobsub_parse_and_decode_spu(bytes, map, words, &mut numbers);
+    let r = vobsub_c::vobsub_parse_and_decode_spu(bytes, map, &mut words, &mut numbers);
     let s = mixed_numbers(1, &numbers);
-    as_expected(e, r, mixed_words(mixed_bytes(s, map), words))
+    as_expected(e, r, mixed_words(mixed_bytes(s, map), &words))
 }
 
 fn written(bytes: &[u8], width: usize, height: usize, out: &mut [u8], e: Expected) -> bool {
@@ -204,7 +210,6 @@ fn canvas(
     stream: usize,
     scratch: &mut [u8],
     map: &mut [u8],
-    words: &mut [u16],
     bytes: &mut [u8],
     e: Expected,
 ) -> bool {
@@ -217,14 +222,13 @@ fn canvas(
         stream,
         scratch,
         map,
-        words,
         bytes,
         &mut times,
         &mut numbers,
     );
     let u = mixed_signed(mixed_signed(mixed_signed(1, times[0]), times[1]), times[2]);
     let s = mixed_shown(u, &numbers);
-    let t = mixed_words(mixed_bytes(mixed_bytes(s, scratch), map), words);
+    let t = mixed_bytes(mixed_bytes(s, scratch), map);
     as_expected(e, r, mixed_bytes(t, bytes))
 }
 
@@ -232,14 +236,6 @@ fn packets_row(bytes: &[u8], position: usize, stream: usize, room: usize, e: Exp
     let mut scratch = [BYTE; 8192];
     if room <= 8192 {
         return packets(bytes, position, stream, &mut scratch[..room], e);
-    }
-    false
-}
-
-fn bands_row(bytes: &[u8], at: usize, room: usize, e: Expected) -> bool {
-    let mut words = [WORD; 1024];
-    if room <= 1024 {
-        return bands(bytes, at, &mut words[..room], e);
     }
     false
 }
@@ -267,13 +263,10 @@ fn written_row(bytes: &[u8], width: usize, height: usize, room: usize, e: Expect
     false
 }
 
-fn unit_row(bytes: &[u8], room: usize, more: usize, e: Expected) -> bool {
+fn unit_row(bytes: &[u8], room: usize, e: Expected) -> bool {
     let mut map = [BYTE; 8192];
-    let mut words = [WORD; 1024];
     if room <= 8192 {
-        if more <= 1024 {
-            return unit(bytes, &mut map[..room], &mut words[..more], e);
-        }
+        return unit(bytes, &mut map[..room], e);
     }
     false
 }
@@ -297,29 +290,24 @@ fn canvas_lent(
     a: usize,
     b: usize,
     c: usize,
-    d: usize,
     e: Expected,
 ) -> bool {
     let mut scratch = [BYTE; 8192];
     let mut map = [BYTE; 1024];
-    let mut words = [WORD; 256];
     let mut bytes = [BYTE; 4096];
     if a <= 8192 {
         if b <= 1024 {
-            if c <= 256 {
-                if d <= 4096 {
-                    return canvas(
-                        text,
-                        file,
-                        n,
-                        stream,
-                        &mut scratch[..a],
-                        &mut map[..b],
-                        &mut words[..c],
-                        &mut bytes[..d],
-                        e,
-                    );
-                }
+            if c <= 4096 {
+                return canvas(
+                    text,
+                    file,
+                    n,
+                    stream,
+                    &mut scratch[..a],
+                    &mut map[..b],
+                    &mut bytes[..c],
+                    e,
+                );
             }
         }
     }
@@ -327,7 +315,7 @@ fn canvas_lent(
 }
 
 // The text's length in four bytes, the cue and the stream in two each, then text and file.
-fn canvas_row(row: &[u8], a: usize, b: usize, c: usize, d: usize, e: Expected) -> bool {
+fn canvas_row(row: &[u8], a: usize, b: usize, c: usize, e: Expected) -> bool {
     if row.len() < 8 {
         return false;
     }
@@ -336,7 +324,7 @@ fn canvas_row(row: &[u8], a: usize, b: usize, c: usize, d: usize, e: Expected) -
     let stream = word_of(row[6], row[7]);
     let rest = &row[8..];
     if length <= rest.len() {
-        return canvas_lent(&rest[..length], &rest[length..], n, stream, a, b, c, d, e);
+        return canvas_lent(&rest[..length], &rest[length..], n, stream, a, b, c, e);
     }
     false
 }
@@ -358,13 +346,13 @@ fn row(class: u8, bytes: &[u8], a: usize, b: usize, c: usize, d: usize, e: Expec
         return packets_row(bytes, a, b, c, e);
     }
     if class == 3 {
-        return bands_row(bytes, a, b, e);
+        return bands(bytes, e);
     }
     if class == 4 {
         return field_row(bytes, a, b, c, d, e);
     }
     if class == 5 {
-        return unit_row(bytes, a, b, e);
+        return unit_row(bytes, a, e);
     }
     if class == 6 {
         return written_row(bytes, a, b, c, e);
@@ -376,7 +364,7 @@ fn row(class: u8, bytes: &[u8], a: usize, b: usize, c: usize, d: usize, e: Expec
         return cue(bytes, a, e);
     }
     if class == 9 {
-        return canvas_row(bytes, a, b, c, d, e);
+        return canvas_row(bytes, a, b, c, e);
     }
     false
 }

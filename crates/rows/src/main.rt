@@ -3,9 +3,10 @@
 // for decode_rle_field both numbers of codes, of 77; for a refused decode_cue times of -77 and numbers of 77.
 // A line of standard input is a row: the function, its name, its numbers, its bytes, and for decode_cue the bytes of
 // the file, with a bar between them. The numbers are those of the call in its order, and how much memory is lent:
-// parse_and_decode_spu: map, words. extract_spu: position, stream; scratch. parse_idx: starts, positions.
-// pick_cue: cue. decode_cue: cue, stream; scratch, map, words, canvas. decode_rle_field: width, height, start row; map.
-// parse_chg_colcon_payload: place; words; the first word that is written.
+// parse_and_decode_spu: map. extract_spu: position, stream; scratch. parse_idx: starts, positions. pick_cue: cue.
+// decode_cue: cue, stream; scratch, map, canvas. decode_rle_field: width, height, start row; map.
+// parse_chg_colcon_payload: none. Of an array of bands all words are written: as many as are used in hexadecimal, and
+// the others in runs.
 use idx_numbers::starts;
 use libc::STDIN_FILENO;
 use libc::STDOUT_FILENO;
@@ -158,14 +159,24 @@ fn cells(bytes: &[u8], words: &[u16], n: usize, found: usize) {
     }
 }
 
-fn word_cells(label: &[u8], s: &[u16]) {
-    say(label);
-    cells(b"", s, s.len(), 61166);
+fn band_words(s: &[u16], used: usize) {
+    if used <= s.len() {
+        cells(b"", s, used, 61166);
+        let rest = &s[used..];
+        runs(b"", rest, &[], rest.len(), 61166);
+    }
 }
 
-fn decoded(unit: &[u8], map: &mut [u8], words: &mut [u16]) {
+// An array of bands of which `used` words are used.
+fn band_array(s: &[u16; 1536], used: usize) {
+    say(b"; bands");
+    band_words(s, used);
+}
+
+fn decoded(unit: &[u8], map: &mut [u8]) {
     let mut numbers: [usize; 17] = [0; 17];
-    let refusal = vobsub_c::vobsub_parse_and_decode_spu(unit, map, words, &mut numbers);
+    let mut words = [FOUND_WORD; 1536];
+    let refusal = vobsub_c::vobsub_parse_and_decode_spu(unit, map, &mut words, &mut numbers);
     if answered(refusal) {
         form(
             b": area @ A B C, selectors T, alphas U, start F G, stop H I, forced J, offsets K L, change M, band words N, codes O",
@@ -174,16 +185,13 @@ fn decoded(unit: &[u8], map: &mut [u8], words: &mut [u16]) {
         form(b", clipped @", &[numbers[16]; 17]);
     }
     byte_runs(b"; map", map);
-    word_cells(b"; words", words);
+    band_array(&words, numbers[14]);
 }
 
-fn unit(bytes: &[u8], a: usize, b: usize) {
-    let mut map = [FOUND; 16];
-    let mut words = [FOUND_WORD; 16];
-    if a <= 16 {
-        if b <= 16 {
-            decoded(bytes, &mut map[..a], &mut words[..b]);
-        }
+fn unit(bytes: &[u8], room: usize) {
+    let mut map = [FOUND; 256];
+    if room <= 256 {
+        decoded(bytes, &mut map[..room]);
     }
 }
 
@@ -389,18 +397,12 @@ fn shown(refusal: u8, times: &[i64; 3], numbers: &[u64; 13]) {
     kept(times, numbers);
 }
 
-fn word_runs(label: &[u8], s: &[u16]) {
-    say(label);
-    runs(b"", s, &[], s.len(), 61166);
-}
-
 fn painted(
     line: &[u8],
     text: &[u8],
     file: &[u8],
     scratch: &mut [u8],
     map: &mut [u8],
-    words: &mut [u16],
     canvas: &mut [u8],
 ) {
     let mut times: [i64; 3] = [FOUND_START; 3];
@@ -412,7 +414,6 @@ fn painted(
         table::given(line, 1),
         scratch,
         map,
-        words,
         canvas,
         &mut times,
         &mut numbers,
@@ -420,33 +421,27 @@ fn painted(
     shown(refusal, &times, &numbers);
     byte_runs(b"; scratch", scratch);
     byte_runs(b"; map", map);
-    word_runs(b"; words", words);
     byte_runs(b"; canvas", canvas);
 }
 
 fn lent(line: &[u8], text: &[u8], file: &[u8]) {
-    let mut scratch = [FOUND; 400];
+    let mut scratch = [FOUND; 8192];
     let mut map = [FOUND; 300];
-    let mut words = [FOUND_WORD; 40];
     let mut canvas = [FOUND; 1200];
     let a = table::given(line, 2);
     let b = table::given(line, 3);
     let c = table::given(line, 4);
-    let d = table::given(line, 5);
-    if a <= 400 {
+    if a <= 8192 {
         if b <= 300 {
-            if c <= 40 {
-                if d <= 1200 {
-                    painted(
-                        line,
-                        text,
-                        file,
-                        &mut scratch[..a],
-                        &mut map[..b],
-                        &mut words[..c],
-                        &mut canvas[..d],
-                    );
-                }
+            if c <= 1200 {
+                painted(
+                    line,
+                    text,
+                    file,
+                    &mut scratch[..a],
+                    &mut map[..b],
+                    &mut canvas[..c],
+                );
             }
         }
     }
@@ -502,34 +497,21 @@ fn field(line: &[u8], bytes: &[u8], width: usize, height: usize) {
     }
 }
 
-fn bands_stored(payload: &[u8], place: usize, words: &mut [u16], from: usize) {
+fn bands(payload: &[u8]) {
+    let mut words = [FOUND_WORD; 1536];
     let mut count: usize = 0;
-    let refusal = vobsub_c::vobsub_parse_chg_colcon_payload(payload, words, place, &mut count);
+    let refusal = vobsub_c::vobsub_parse_chg_colcon_payload(payload, &mut words, &mut count);
     if answered(refusal) {
         form(b": words @", &[count; 17]);
     }
-    if from == 0 {
-        word_cells(b",", words);
-        return;
-    }
-    if from <= words.len() {
-        form(b", the last @", &[words.len() - from; 17]);
-        word_cells(b"", &words[from..]);
-    }
-}
-
-fn bands(line: &[u8], payload: &[u8], place: usize, room: usize) {
-    let mut words = [FOUND_WORD; 256];
-    if room <= 256 {
-        bands_stored(payload, place, &mut words[..room], table::given(line, 2));
-    }
+    band_array(&words, count);
 }
 
 fn asked(line: &[u8], bytes: &[u8]) {
     let a = table::given(line, 0);
     let b = table::given(line, 1);
     if starts(line, b"parse_and_decode_spu|") {
-        unit(bytes, a, b);
+        unit(bytes, a);
     }
     if starts(line, b"extract_spu|") {
         packets(bytes, a, b, table::given(line, 2));
@@ -547,7 +529,7 @@ fn asked(line: &[u8], bytes: &[u8]) {
         field(line, bytes, a, b);
     }
     if starts(line, b"parse_chg_colcon_payload|") {
-        bands(line, bytes, a, b);
+        bands(bytes);
     }
 }
 

@@ -1,14 +1,16 @@
-// A whole unit: its control blocks, the rows of its two fields in the index map, and its bands as words (docs/FORMAT.md, sections 3 to 5).
+// A whole unit: its control blocks, the rows of its two fields in the index map, and its bands in the record
+// (docs/FORMAT.md, sections 3 to 5).
+use clock_model::Ticks;
 use control_model::ControlAnswer;
 use control_model::Spu;
 use fields::Span;
 use outcome::NO_TOP_FIELD;
 use outcome::SHORT_PIXELS;
-use outcome::SHORT_WORDS;
 use outcome::word_of;
 use rle_model::Counts;
 use rle_model::FieldAnswer;
 use spu_model::Layout;
+use spu_model::Record;
 use spu_model::SpuAnswer;
 ghost use mathlib.Core.Path.{_≡_};
 ghost use Prim.Native.Nat.{_≤_, _<_, _-_, _+_, _*_};
@@ -19,14 +21,12 @@ ghost use Rattle.grammar.specs.Control.{Block};
 ghost use Rattle.grammar.specs.Record.{Told, told, width, height};
 ghost use Rattle.grammar.specs.Picture.{topEnd};
 ghost use Rattle.spu_model.specs.Unit.{offsetsOf};
-ghost use Rattle.outcome.specs.Outcome.{ok, IsOk};
-ghost use lib.Seq.{sets};
-ghost use Rattle.control_model.specs.Fill.{unitWords};
+ghost use Rattle.outcome.specs.Outcome.{ok, refuse};
 ghost use Rattle.control_model.specs.Chain.{controlAt};
 ghost use Rattle.control_model.specs.Answers.{spuOf};
 ghost use Rattle.rle_model.specs.Answers.{fieldAnswer, nothing};
 ghost use Rattle.spu_model.specs.Unit.{hasBottom, rowsAt, unitAt};
-ghost use Rattle.spu_model.specs.Answers.{layoutOf, spuAnswer, RowsDecoded, Decoded};
+ghost use Rattle.spu_model.specs.Answers.{layoutOf, spuAnswer, recordGiven, RowsDecoded, Decoded};
 
 // The byte before which the top field ends.
 fn ending(control: usize, top: usize, bottom: usize) -> usize
@@ -130,7 +130,8 @@ pub fn decode_rows(unit: &[u8], spu: Spu, pixels: &mut [u8]) -> FieldAnswer
 }
 
 // The record with what its rows count.
-fn with_counts(spu: Spu, counts: Counts) -> Spu
+// Ruled out: the clipped codes in the place of all codes.
+pub fn with_counts(spu: Spu, counts: Counts) -> Spu
     ensures { λ r. ⌜ ((t : Told) → spu ≡ spuOf t nothing → r ≡ spuOf t counts) ⌝ }
 {
     let mut s = spu;
@@ -139,60 +140,97 @@ fn with_counts(spu: Spu, counts: Counts) -> Spu
     s
 }
 
-// A unit's record with what its rows count, with no map and no words.
-// Ruled out: a record of a unit whose rows are not all there; the number of one field's codes.
-pub fn measure_spu(unit: &[u8]) -> SpuAnswer
-    ensures { λ r. ⌜ (r ≡ spuAnswer (unitAt (now (unit .entry)))) × Measures (now (unit .entry)) r ⌝ }
-{
-    match control::parse_control(unit) {
-        ControlAnswer::Tells(spu) => match measure_rows(unit, spu) {
-            FieldAnswer::Rows(counts) => SpuAnswer::Shows(with_counts(spu, counts)),
-            FieldAnswer::Refused(number) => SpuAnswer::Refused(number),
-        },
-        ControlAnswer::Refused(number) => SpuAnswer::Refused(number),
-    }
-}
-
-// The bands of a unit, which take `count` words. A unit without bands is not walked again.
-fn store_bands(unit: &[u8], count: usize, words: &mut [u16])
-    requires { ⌜ (IsOk (controlAt (now unit))) × (count ≡ length (unitWords (now unit))) × (count ≤ length (now words)) ⌝ }
-    ensures { λ _. ⌜ now (words .exit) ≡ sets (now (words .entry)) 0 (unitWords (now (unit .entry))) ⌝ }
-{
-    if 0 < count {
-        bands::fill_bands(unit, words);
-    }
-}
-
-// The rest of a unit whose control blocks tell `spu`.
-// Ruled out: words stored where the rows are refused; a map painted where the words do not fit.
-pub fn decode_told(unit: &[u8], spu: Spu, pixels: &mut [u8], words: &mut [u16]) -> SpuAnswer
+// What a unit gives whose control blocks tell `spu`, with no map.
+fn measure_told(unit: &[u8], spu: Spu) -> SpuAnswer
     requires { ⌜ ((bs : List Block) × (controlAt (now unit) ≡ ok bs) × (spu ≡ spuOf (told bs) nothing)) ⌝ }
-    ensures { λ r. ⌜ Decoded (now (unit .entry)) (now (pixels .entry)) (now (words .entry)) r (now (pixels .exit)) (now (words .exit)) ⌝ }
+    ensures { λ r. ⌜ r ≡ spuAnswer (unitAt (now (unit .entry))) ⌝ }
 {
-    let l = laid_out(unit, spu);
-    if pixels.len() < l.width * l.height {
-        return SpuAnswer::Refused(SHORT_PIXELS);
+    let b = bands::unit_bands(unit, spu.band_words);
+    if b.refused != 0 {
+        return SpuAnswer::Refused(b.refused);
     }
-    if words.len() < spu.band_words {
-        return SpuAnswer::Refused(SHORT_WORDS);
-    }
-    match decode_rows(unit, spu, pixels) {
-        FieldAnswer::Rows(counts) => {
-            store_bands(unit, spu.band_words, words);
-            SpuAnswer::Shows(with_counts(spu, counts))
-        }
+    match measure_rows(unit, spu) {
+        FieldAnswer::Rows(counts) => SpuAnswer::Shows(with_counts(spu, counts)),
         FieldAnswer::Refused(number) => SpuAnswer::Refused(number),
     }
 }
 
-// A unit's record, its picture as colour numbers in the front of `pixels`, and its bands in the front of `words`. On a refusal both are as
-// found.
-// Ruled out: rows painted before the last is known to be whole; a row without codes left as found instead of 0.
-pub fn parse_and_decode_spu(unit: &[u8], pixels: &mut [u8], words: &mut [u16]) -> SpuAnswer
-    ensures { λ r. ⌜ Decoded (now (unit .entry)) (now (pixels .entry)) (now (words .entry)) r (now (pixels .exit)) (now (words .exit)) × Says (now (unit .entry)) (now (pixels .entry)) (now (words .entry)) (now (pixels .exit)) (now (words .exit)) r ⌝ }
+// A unit's record with what its rows count, with no map and without the words of its bands.
+// Ruled out: a record of a unit whose rows are not all there; the number of one field's codes; a record of more than 32
+// bands.
+pub fn measure_spu(unit: &[u8]) -> SpuAnswer
+    ensures { λ r. ⌜ (r ≡ spuAnswer (unitAt (now (unit .entry)))) × Measures (now (unit .entry)) r ⌝ }
 {
     match control::parse_control(unit) {
-        ControlAnswer::Tells(spu) => decode_told(unit, spu, pixels, words),
+        ControlAnswer::Tells(spu) => measure_told(unit, spu),
         ControlAnswer::Refused(number) => SpuAnswer::Refused(number),
+    }
+}
+
+// A refusal: all else is 0.
+fn refusal(number: u8) -> Record
+    ensures { λ r. ⌜ r ≡ recordGiven (refuse number) ⌝ }
+{
+    Record {
+        refused: number,
+        spu: Spu {
+            x1: 0,
+            y1: 0,
+            x2: 0,
+            y2: 0,
+            palette_sel: 0,
+            alpha: 0,
+            started: false,
+            start_delay_raw: Ticks(0),
+            stopped: false,
+            stop_delay_raw: Ticks(0),
+            forced_display: false,
+            top_rle_off: 0,
+            bot_rle_off: 0,
+            saw_chg_colcon: false,
+            band_words: 0,
+            codes: 0,
+            clipped: 0,
+        },
+        bands: [0u16; 1536],
+    }
+}
+
+// The rest of a unit whose control blocks tell `spu`.
+// Ruled out: a map painted where the bands are too many; a map too short before bands that are too many.
+fn decode_told(unit: &[u8], spu: Spu, pixels: &mut [u8]) -> Record
+    requires { ⌜ ((bs : List Block) × (controlAt (now unit) ≡ ok bs) × (spu ≡ spuOf (told bs) nothing)) ⌝ }
+    ensures { λ r. ⌜ Decoded (now (unit .entry)) (now (pixels .entry)) r (now (pixels .exit)) ⌝ }
+{
+    let b = bands::unit_bands(unit, spu.band_words);
+    if b.refused != 0 {
+        return refusal(b.refused);
+    }
+    let l = laid_out(unit, spu);
+    if pixels.len() < l.width * l.height {
+        return refusal(SHORT_PIXELS);
+    }
+    match decode_rows(unit, spu, pixels) {
+        FieldAnswer::Rows(counts) => {
+            let words = b.words;
+            Record {
+                refused: 0,
+                spu: with_counts(spu, counts),
+                bands: words,
+            }
+        }
+        FieldAnswer::Refused(number) => refusal(number),
+    }
+}
+
+// A unit's record with its bands in it, and its picture as colour numbers in the front of `pixels`, which is as found on
+// a refusal.
+// Ruled out: rows painted before the last is known to be whole; a row without codes left as found instead of 0.
+pub fn parse_and_decode_spu(unit: &[u8], pixels: &mut [u8]) -> Record
+    ensures { λ r. ⌜ Decoded (now (unit .entry)) (now (pixels .entry)) r (now (pixels .exit)) × Says (now (unit .entry)) (now (pixels .entry)) (now (pixels .exit)) r ⌝ }
+{
+    match control::parse_control(unit) {
+        ControlAnswer::Tells(spu) => decode_told(unit, spu, pixels),
+        ControlAnswer::Refused(number) => refusal(number),
     }
 }

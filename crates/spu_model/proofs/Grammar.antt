@@ -14,6 +14,8 @@ use Rattle.grammar.specs.Rows.{Code, RowCodes, FieldRows}
 use Rattle.grammar.specs.Control.{Block, lengthWord, controlWord}
 use Rattle.grammar.specs.Record.{Told, told, width, height}
 use Rattle.grammar.specs.Picture.{evens, odds, topEnd, Stay0, Bottom, IsPicture, ListedUnit, IsUnit}
+use Rattle.control_model.specs.Few.{fewAt}
+use Rattle.control_model.proofs.Few.{few-iff}
 use Rattle.control_model.specs.Chain.{hasArea, chainAt, controlAt}
 use Rattle.control_model.proofs.Grammar.{chain-iff}
 use Rattle.rle_model.specs.Codes.{fieldAt}
@@ -186,8 +188,9 @@ unit-iff u l = (to, from)
   where
     to : unitAt u ≡ ok l → IsUnit u l
     to e =
-        let a = andThen-ok (controlAt u) (λ (bs : List Block). mapRes (listedUnit bs) (rowsAt u (told bs))) e in
-        let b = andThen-ok (chainAt u) (λ (bs : List Block). check (hasArea (told bs)) no-area (ok bs)) (a .1) in
+        let a = andThen-ok (fewAt u) (λ (bs : List Block). mapRes (listedUnit bs) (rowsAt u (told bs))) e in
+        let f = few-iff u (a .0) .0 (a .1) in
+        let b = andThen-ok (chainAt u) (λ (bs : List Block). check (hasArea (told bs)) no-area (ok bs)) (f .0) in
         let c = check-ok (hasArea (told (b .0))) no-area (ok (b .0)) (b .2) in
         let q : b .0 ≡ a .0 = ok-injective (c .1) in
         let w = mapRes-ok (listedUnit (a .0)) (rowsAt u (told (a .0))) (a .2) in
@@ -196,6 +199,7 @@ unit-iff u l = (to, from)
         subst (IsUnit u) (w .2)
         (record {
           chain = chain-iff u (a .0) .0 (b .1 ∙ ap ok q);
+          few = f .1;
           picture = picture-sound u t (leb-true _ _ (d .0)) (leb-true _ _ (d .1)) (w .0) (w .1);
         })
 
@@ -203,7 +207,9 @@ unit-iff u l = (to, from)
     from h =
         let p = h .picture in
         let t = told (l .blocks) in
-        rw (chain-iff u (l .blocks) .1 (h .chain), le-leb (t .at .x1) (t .at .x2) (p .wide), le-leb (t .at .y1) (t .at .y2) (p .high), picture-complete u t (p .wide) (p .high) (h .chain .order) (l .rows) p)
+        let c : controlAt u ≡ ok (l .blocks) =
+        rw (chain-iff u (l .blocks) .1 (h .chain), le-leb (t .at .x1) (t .at .x2) (p .wide), le-leb (t .at .y1) (t .at .y2) (p .high)) in
+        rw (few-iff u (l .blocks) .1 (c, h .few), picture-complete u t (p .wide) (p .high) (h .chain .order) (l .rows) p)
 
 pub unit-unique : (u : List ℕ) (a b : ListedUnit) → IsUnit u a → IsUnit u b → a ≡ b
 unit-unique u a b x y = ok-injective (sym (unit-iff u a .1 x) ∙ unit-iff u b .1 y)

@@ -4,12 +4,12 @@ use native.Mathlib.Nat.{mul-le-mul-right}
 use native.Mathlib.Omega.{arith}
 use mathlib.Core.Path.{_≡_, refl, sym, ap, _∙_, subst}
 use mathlib.Core.Bool.{Bool, true, cond, _&&_}
-use mathlib.Core.List.{List, [], _∷_}
+use mathlib.Core.List.{List}
 use lib.ListN.{length}
 use lib.Dec.{leb, ltb}
 use lib.Seq.{sets}
 use borrow.Author.Tests.{leb-true, le-leb, lt-leb, lt-ltb, le-ltb}
-use Rattle.outcome.specs.Outcome.{Res, ok, refuse, IsOk, listed, mapRes, short-pixels, short-words, no-top-field}
+use Rattle.outcome.specs.Outcome.{Res, ok, refuse, IsOk, listed, mapRes, short-pixels, no-top-field}
 use Rattle.outcome.proofs.Laws.{ok-injective, and-true}
 use Rattle.grammar.specs.Rows.{Code}
 use Rattle.grammar.specs.Bands.{bandWords}
@@ -21,6 +21,8 @@ use Rattle.control_model.proofs.Fold.{folded}
 use Rattle.grammar.specs.Picture.{topEnd}
 use Rattle.control_model.specs.Chain.{controlAt}
 use Rattle.control_model.specs.Answers.{spuOf, chainAnswer, controlAnswer}
+use Rattle.bands_model.specs.Answers.{padded}
+use Rattle.control_model.specs.Few.{fewAt}
 use Rattle.control_model.specs.Fill.{unitWords}
 use Rattle.control_model.specs.declared.Spu.{Spu}
 use Rattle.control_model.specs.declared.ControlAnswer.the-variants as control-answer
@@ -32,8 +34,9 @@ use Rattle.rle_model.specs.declared.FieldAnswer.{FieldAnswer}
 use Rattle.rle_model.specs.declared.FieldAnswer.the-variants as field-answer
 use Rattle.rle_model.proofs.Claim.{counts-listed}
 use Rattle.spu_model.specs.Unit.{hasBottom, offsetsOf, rowsAt, listedUnit, unitAt, unitIn}
-use Rattle.spu_model.specs.Answers.{layoutOf, spuAnswer, RowsDecoded, Decoded}
+use Rattle.spu_model.specs.Answers.{layoutOf, spuAnswer, recordGiven, RowsDecoded, Decoded}
 use Rattle.spu_model.specs.declared.Layout.{Layout}
+use Rattle.spu_model.specs.declared.Record.{Record}
 use Rattle.spu_model.specs.declared.SpuAnswer.the-variants as spu-answer
 
 -- ---- The layout
@@ -166,19 +169,19 @@ refused-by u n e = go (controlAt u) refl e
     go (refuse m) q f = let y : n ≡ m = cc in q ∙ ap refuse (sym y)
 
 -- and what an answer for rows says
-record Rowed (u : List ℕ) (t : Told) (b : Counts) : Type 0 where
-  rs : List (List Code)
-  reads : rowsAt u t ≡ ok rs
-  count : b ≡ listedCounts (width t) rs
+pub record Rowed (u : List ℕ) (t : Told) (b : Counts) : Type 0 where
+  pub rs : List (List Code)
+  pub reads : rowsAt u t ≡ ok rs
+  pub count : b ≡ listedCounts (width t) rs
 
-rowed : (u : List ℕ) (t : Told) (b : Counts) → field-answer.Rows b ≡ fieldAnswer (width t) (rowsAt u t) → Rowed u t b
+pub rowed : (u : List ℕ) (t : Told) (b : Counts) → field-answer.Rows b ≡ fieldAnswer (width t) (rowsAt u t) → Rowed u t b
 rowed u t b e = go (rowsAt u t) refl e
   where
     go : (r : Res (List (List Code))) → rowsAt u t ≡ r → field-answer.Rows b ≡ fieldAnswer (width t) r → Rowed u t b
     go (refuse n) q f = let y : _≡_ {A = ℕ} 0 1 = cc in absurd (omega arith)
     go (ok rs) q f = let y : b ≡ fieldCounts (width t) rs = cc in record { rs = rs; reads = q; count = y ∙ counts-listed (width t) rs }
 
-unrowed : (u : List ℕ) (t : Told) (n : ℕ) → field-answer.Refused n ≡ fieldAnswer (width t) (rowsAt u t) → rowsAt u t ≡ refuse n
+pub unrowed : (u : List ℕ) (t : Told) (n : ℕ) → field-answer.Refused n ≡ fieldAnswer (width t) (rowsAt u t) → rowsAt u t ≡ refuse n
 unrowed u t n e = go (rowsAt u t) refl e
   where
     go : (r : Res (List (List Code))) → rowsAt u t ≡ r → field-answer.Refused n ≡ fieldAnswer (width t) r → rowsAt u t ≡ refuse n
@@ -186,14 +189,23 @@ unrowed u t n e = go (rowsAt u t) refl e
     go (refuse m) q f = let y : n ≡ m = cc in q ∙ ap refuse (sym y)
 
 pub measured-refused : (u : List ℕ) (n : ℕ) → controlAt u ≡ refuse n → spu-answer.Refused n ≡ spuAnswer (unitAt u)
-unfolding unitAt
+unfolding unitAt fewAt
 measured-refused u n e = rw e
 
-pub decoded-refused : (u px ws : List ℕ) (n : ℕ) → controlAt u ≡ refuse n → Decoded u px ws (spu-answer.Refused n) px ws
-unfolding unitIn
-decoded-refused u px ws n e = record { answer = rw e; pixels = rw e; words = rw e }
+pub decoded-refused : (u px : List ℕ) (r : Record) (n : ℕ) → controlAt u ≡ refuse n → r ≡ recordGiven (refuse n) → Decoded u px r px
+unfolding unitIn fewAt
+decoded-refused u px r n e q = record { answer = rw e q; pixels = rw e }
 
-module _ (u : List ℕ) (bs : List Block) (e : controlAt u ≡ ok bs) where
+-- bands that are too many
+pub measured-many : (u : List ℕ) (n : ℕ) → fewAt u ≡ refuse n → spu-answer.Refused n ≡ spuAnswer (unitAt u)
+unfolding unitAt
+measured-many u n e = rw e
+
+pub decoded-many : (u px : List ℕ) (r : Record) (n : ℕ) → fewAt u ≡ refuse n → r ≡ recordGiven (refuse n) → Decoded u px r px
+unfolding unitIn
+decoded-many u px r n e q = record { answer = rw e q; pixels = rw e }
+
+module _ (u : List ℕ) (bs : List Block) (e : fewAt u ≡ ok bs) where
   pub measured-shows : (b : Counts) (s : Spu) → field-answer.Rows b ≡ fieldAnswer (width (told bs)) (rowsAt u (told bs)) → s ≡ spuOf (told bs) b
       → spu-answer.Shows s ≡ spuAnswer (unitAt u)
   unfolding unitAt
@@ -205,67 +217,49 @@ module _ (u : List ℕ) (bs : List Block) (e : controlAt u ≡ ok bs) where
   unfolding unitAt
   measured-stops n f = rw (e, unrowed u (told bs) n f)
 
-  module _ (px ws : List ℕ) where
+  module _ (px : List ℕ) where
     abbrev pixels-needed : ℕ
     pixels-needed = width (told bs) * height (told bs)
 
-    abbrev words-needed : ℕ
-    words-needed = length (bandWords (told bs .bands))
-
-    pub short-map : length px < pixels-needed → Decoded u px ws (spu-answer.Refused short-pixels) px ws
+    pub short-map : (r : Record) → length px < pixels-needed → r ≡ recordGiven (refuse short-pixels) → Decoded u px r px
     unfolding unitIn
-    short-map h = let z = lt-leb pixels-needed (length px) h in record { answer = rw (e, z); pixels = rw (e, z); words = rw (e, z) }
+    short-map r h q = let z = lt-leb pixels-needed (length px) h in record { answer = rw (e, z) q; pixels = rw (e, z) }
 
-    pub short-bands : pixels-needed ≤ length px → length ws < words-needed → Decoded u px ws (spu-answer.Refused short-words) px ws
-    unfolding unitIn
-    short-bands h k =
-        let z = le-leb pixels-needed (length px) h in
-        let y = lt-leb words-needed (length ws) k in
-        record { answer = rw (e, z, y); pixels = rw (e, z, y); words = rw (e, z, y) }
-
-    module _ (h : pixels-needed ≤ length px) (k : words-needed ≤ length ws) where
-      fits : unitIn u (length px) (length ws) ≡ mapRes (listedUnit bs) (rowsAt u (told bs))
+    module _ (h : pixels-needed ≤ length px) where
+      fits : unitIn u (length px) ≡ mapRes (listedUnit bs) (rowsAt u (told bs))
       unfolding unitIn
-      fits = rw (e, le-leb pixels-needed (length px) h, le-leb words-needed (length ws) k)
+      fits = rw (e, le-leb pixels-needed (length px) h)
 
-      pub decoded-shows : (a : FieldAnswer) (b : Counts) (s : Spu) (px′ ws′ : List ℕ) → a ≡ field-answer.Rows b → RowsDecoded u (told bs) px a px′ → ws′ ≡ sets ws 0 (unitWords u)
-          → s ≡ spuOf (told bs) b → Decoded u px ws (spu-answer.Shows s) px′ ws′
-      decoded-shows a b s px′ ws′ g d w q =
+      pub decoded-shows : (a : FieldAnswer) (b : Counts) (s : Spu) (px′ ws : List ℕ) → a ≡ field-answer.Rows b → RowsDecoded u (told bs) px a px′
+          → ws ≡ padded (bandWords (told bs .bands)) → s ≡ spuOf (told bs) b → Decoded u px (record { refused = 0; spu = s; bands = ws }) px′
+      decoded-shows a b s px′ ws g d w q =
           let r = rowed u (told bs) b (sym g ∙ d .answer) in
-          let f : unitIn u (length px) (length ws) ≡ ok (listedUnit bs (r .rs)) = fits ∙ ap (mapRes (listedUnit bs)) (r .reads) in
+          let f : unitIn u (length px) ≡ ok (listedUnit bs (r .rs)) = fits ∙ ap (mapRes (listedUnit bs)) (r .reads) in
+          let k : s ≡ spuOf (told bs) (listedCounts (width (told bs)) (r .rs)) = q ∙ ap (spuOf (told bs)) (r .count) in
           record {
-            answer = rw f (ap spu-answer.Shows (q ∙ ap (spuOf (told bs)) (r .count)));
+            answer = rw f (λ i. record { refused = 0; spu = k i; bands = w i });
             pixels = rw f (d .pixels ∙ ap (λ (x : Res (List (List Code))). sets px 0 (indexMap (width (told bs)) (listed x))) (r .reads));
-            words = rw f (w ∙ ap (λ (x : Res (List Block)). sets ws 0 (bandWords (told (listed x) .bands))) e);
           }
 
-      pub decoded-stops : (a : FieldAnswer) (n : ℕ) (px′ : List ℕ) → a ≡ field-answer.Refused n → RowsDecoded u (told bs) px a px′ → Decoded u px ws (spu-answer.Refused n) px′ ws
+      pub decoded-stops : (a : FieldAnswer) (n : ℕ) (r : Record) (px′ : List ℕ) → a ≡ field-answer.Refused n → RowsDecoded u (told bs) px a px′ → r ≡ recordGiven (refuse n) → Decoded u px r px′
       unfolding indexMap
-      decoded-stops a n px′ g d =
-          let r = unrowed u (told bs) n (sym g ∙ d .answer) in
-          let f : unitIn u (length px) (length ws) ≡ refuse n = fits ∙ ap (mapRes (listedUnit bs)) r in
-          record {
-            answer = rw f;
-            pixels = rw f (d .pixels ∙ ap (λ (x : Res (List (List Code))). sets px 0 (indexMap (width (told bs)) (listed x))) r);
-            words = rw f;
-          }
+      decoded-stops a n r px′ g d q =
+          let t = unrowed u (told bs) n (sym g ∙ d .answer) in
+          let f : unitIn u (length px) ≡ refuse n = fits ∙ ap (mapRes (listedUnit bs)) t in
+          record { answer = rw f q; pixels = rw f (d .pixels ∙ ap (λ (x : Res (List (List Code))). sets px 0 (indexMap (width (told bs)) (listed x))) t) }
 
 -- two sides of at most 65,536
 pub area-small : (a b : ℕ) → a ≤ 65536 → b ≤ 65536 → a * b ≤ 4294967296
 area-small a b h k = let m : a * b ≤ 65536 * b = mul-le-mul-right b h in omega arith
 
--- the words that the bands of a unit take
+-- the words that the bands of a unit take, and what making their array asks for
 pub needs-words : (s : Spu) (t : Told) → s ≡ spuOf t nothing → s .«band_words» ≡ length (bandWords (t .bands))
 unfolding spuOf
 needs-words s t e = ap (λ (r : Spu). r .«band_words») e
 
-pub is-ok : (u : List ℕ) (bs : List Block) → controlAt u ≡ ok bs → IsOk (controlAt u)
-is-ok u bs e = subst IsOk (sym e) tt
-
-pub words-are : (u : List ℕ) (bs : List Block) → controlAt u ≡ ok bs → length (bandWords (told bs .bands)) ≡ length (unitWords u)
-words-are u bs e = ap (λ (r : Res (List Block)). length (bandWords (told (listed r) .bands))) (sym e)
-
--- no words are stored as none
-pub no-words : (ws vs : List ℕ) (n : ℕ) → n ≡ length vs → n ≤ 0 → ws ≡ sets ws 0 vs
-no-words ws [] n e h = refl
-no-words ws (v ∷ vs) n e h = absurd (omega arith)
+pub bands-asked : (u : List ℕ) (s : Spu) → ((bs : List Block) × (controlAt u ≡ ok bs) × (s ≡ spuOf (told bs) nothing))
+    → IsOk (controlAt u) × (s .«band_words» ≡ length (unitWords u))
+bands-asked u s k = (
+  subst IsOk (sym (k .1)) tt,
+  needs-words s (told (k .0)) (k .2) ∙ ap (λ (r : Res (List Block)). length (bandWords (told (listed r) .bands))) (sym (k .1)),
+)

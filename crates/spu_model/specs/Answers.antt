@@ -1,4 +1,4 @@
--- What each answer means, and what the map and the words hold afterwards (FORMAT 3.6, 4.5, 5.8, 5.9). Assumes nothing: these are definitions.
+-- What each answer means, and what the map holds afterwards (FORMAT 3.6, 4.5, 5.8, 5.9). Assumes nothing: these are definitions.
 use Prim.Native.Nat.{ℕ}
 use mathlib.Core.Path.{_≡_}
 use mathlib.Core.List.{List, []}
@@ -10,11 +10,15 @@ use Rattle.grammar.specs.Pixels.{indexMap}
 use Rattle.grammar.specs.Control.{lengthWord, controlWord}
 use Rattle.grammar.specs.Record.{Told, told, width, height}
 use Rattle.grammar.specs.Picture.{topEnd, ListedUnit}
+use Rattle.bands_model.specs.Answers.{padded}
+use Rattle.control_model.specs.Fold.{untold}
 use Rattle.control_model.specs.Answers.{spuOf}
-use Rattle.rle_model.specs.Answers.{fieldAnswer}
+use Rattle.rle_model.specs.Answers.{fieldAnswer, nothing}
+use Rattle.rle_model.specs.declared.Counts.{Counts}
 use Rattle.rle_model.specs.declared.FieldAnswer.{FieldAnswer}
 use Rattle.spu_model.specs.Unit.{hasBottom, rowsAt, unitIn, countsOf}
 use Rattle.spu_model.specs.declared.Layout.{Layout}
+use Rattle.spu_model.specs.declared.Record.{Record}
 use Rattle.spu_model.specs.declared.SpuAnswer.{SpuAnswer}
 use Rattle.spu_model.specs.declared.SpuAnswer.the-variants as spu-answer
 
@@ -37,14 +41,19 @@ abbrev pub spuAnswer : Res ListedUnit → SpuAnswer
 spuAnswer (ok l) = spu-answer.Shows (spuOf (told (l .blocks)) (countsOf l))
 spuAnswer (refuse n) = spu-answer.Refused n
 
--- the index map and the words of what is listed; none on a refusal
+-- the same with the bands in it: their words, and 0 after them
+abbrev pub recordOf : Told → Counts → Record
+recordOf t n = record { refused = 0; spu = spuOf t n; bands = padded (bandWords (t .bands)) }
+
+-- or the number of the refusal, and all else 0
+abbrev pub recordGiven : Res ListedUnit → Record
+recordGiven (ok l) = recordOf (told (l .blocks)) (countsOf l)
+recordGiven (refuse n) = record { refused = n; spu = spuOf untold nothing; bands = padded [] }
+
+-- the index map of what is listed; none on a refusal
 abbrev pub unitMap : Res ListedUnit → List ℕ
 unitMap (ok l) = indexMap (width (told (l .blocks))) (l .rows)
 unitMap (refuse n) = []
-
-abbrev pub unitBands : Res ListedUnit → List ℕ
-unitBands (ok l) = bandWords (told (l .blocks) .bands)
-unitBands (refuse n) = []
 
 -- what decoding the rows of a unit u whose commands told t leaves
 pub record RowsDecoded (u : List ℕ) (t : Told) (px : List ℕ) (r : FieldAnswer) (px′ : List ℕ) : Type 0 where
@@ -52,7 +61,6 @@ pub record RowsDecoded (u : List ℕ) (t : Told) (px : List ℕ) (r : FieldAnswe
   pub pixels : px′ ≡ sets px 0 (indexMap (width t) (listed (rowsAt u t)))
 
 -- what decoding a unit leaves: on a refusal nothing is stored
-pub record Decoded (u px ws : List ℕ) (r : SpuAnswer) (px′ ws′ : List ℕ) : Type 0 where
-  pub answer : r ≡ spuAnswer (unitIn u (length px) (length ws))
-  pub pixels : px′ ≡ sets px 0 (unitMap (unitIn u (length px) (length ws)))
-  pub words : ws′ ≡ sets ws 0 (unitBands (unitIn u (length px) (length ws)))
+pub record Decoded (u px : List ℕ) (r : Record) (px′ : List ℕ) : Type 0 where
+  pub answer : r ≡ recordGiven (unitIn u (length px))
+  pub pixels : px′ ≡ sets px 0 (unitMap (unitIn u (length px)))

@@ -4,14 +4,12 @@ use Prim.Native.Nat.{ℕ, _*_}
 use mathlib.Core.Bool.{Bool, _&&_}
 use mathlib.Core.List.{List}
 use lib.Dec.{leb, ltb}
-use lib.ListN.{length}
-use Rattle.outcome.specs.Outcome.{Res, check, andThen, mapRes, short-pixels, short-words, no-top-field}
+use Rattle.outcome.specs.Outcome.{Res, check, andThen, mapRes, short-pixels, no-top-field}
 use Rattle.grammar.specs.Rows.{Code}
-use Rattle.grammar.specs.Bands.{bandWords}
 use Rattle.grammar.specs.Control.{Block, lengthWord, controlWord}
 use Rattle.grammar.specs.Record.{Offsets, Told, told, width, height}
 use Rattle.grammar.specs.Picture.{topEnd, ListedUnit}
-use Rattle.control_model.specs.Chain.{controlAt}
+use Rattle.control_model.specs.Few.{fewAt}
 use Rattle.rle_model.specs.Fields.{fieldsAt}
 use Rattle.rle_model.specs.declared.Counts.{Counts}
 use Rattle.rle_model.specs.Answers.{listedCounts}
@@ -36,14 +34,12 @@ listedUnit bs rs = record { blocks = bs; rows = rs }
 abbrev pub countsOf : ListedUnit → Counts
 countsOf l = listedCounts (width (told (l .blocks))) (l .rows)
 
--- a unit with no map and no words lent
+-- a unit with no map lent
 unfoldable pub unitAt : List ℕ → Res ListedUnit
-unitAt u = andThen (controlAt u) (λ bs. mapRes (listedUnit bs) (rowsAt u (told bs)))
+unitAt u = andThen (fewAt u) (λ bs. mapRes (listedUnit bs) (rowsAt u (told bs)))
 
--- and with a map of n pixels and m words (FORMAT 3.7)
-unfoldable pub unitIn : List ℕ → ℕ → ℕ → Res ListedUnit
-unitIn u n m =
-    andThen (controlAt u)
-    (λ bs.
-    check (leb (width (told bs) * height (told bs)) n) short-pixels
-    (check (leb (length (bandWords (told bs .bands))) m) short-words (mapRes (listedUnit bs) (rowsAt u (told bs)))))
+-- and with a map of n pixels (FORMAT 3.7)
+unfoldable pub unitIn : List ℕ → ℕ → Res ListedUnit
+unitIn u n =
+    andThen (fewAt u)
+    (λ bs. check (leb (width (told bs) * height (told bs)) n) short-pixels (mapRes (listedUnit bs) (rowsAt u (told bs))))

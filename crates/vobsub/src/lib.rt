@@ -11,11 +11,9 @@ use outcome::LONG_INSTANT;
 use outcome::NO_CUE;
 use outcome::SHORT_CANVAS;
 use outcome::SHORT_PIXELS;
-use outcome::SHORT_WORDS;
 use ps::TOP_STREAM;
 use ps_model::UnitAnswer;
 use rle_model::FieldAnswer;
-use spu_model::SpuAnswer;
 use vobsub_model::CanvasAnswer;
 use vobsub_model::Four;
 use vobsub_model::Request;
@@ -292,26 +290,27 @@ fn late_refusal(unit: &[u8], spu: Spu) -> u8
     }
 }
 
-// The rest of a unit of the cue c whose control blocks tell `spu`: what is shown, map, bands and canvas.
+// The rest of a unit of the cue c whose control blocks tell `spu`: what is shown, map and canvas.
+// Ruled out: a map or a canvas too short before bands that are too many.
 fn paint_told(
     unit: &[u8],
     spu: Spu,
     c: CueAnswer,
     pixels: &mut [u8],
-    words: &mut [u16],
     canvas: &mut [u8],
 ) -> CanvasAnswer
     requires { ⌜ ((bs : List Block) × (controlAt (now unit) ≡ ok bs) × (spu ≡ spuOf (told bs) nothing)) ⌝ }
-    ensures { λ r. ⌜ UnitPainted (now (unit .entry)) c (now (pixels .entry)) (now (words .entry)) (now (canvas .entry)) r (now (pixels .exit)) (now (words .exit)) (now (canvas .exit)) ⌝ }
+    ensures { λ r. ⌜ UnitPainted (now (unit .entry)) c (now (pixels .entry)) (now (canvas .entry)) r (now (pixels .exit)) (now (canvas .exit)) ⌝ }
 {
+    let b = bands::unit_bands(unit, spu.band_words);
+    if b.refused != 0 {
+        return CanvasAnswer::Refused(b.refused);
+    }
     let width = spu.x2 as usize + 1 - spu.x1 as usize;
     let height = spu.y2 as usize + 1 - spu.y1 as usize;
     let area = width * height;
     if pixels.len() < area {
         return CanvasAnswer::Refused(SHORT_PIXELS);
-    }
-    if words.len() < spu.band_words {
-        return CanvasAnswer::Refused(SHORT_WORDS);
     }
     if canvas.len() < 4 * area {
         return CanvasAnswer::Refused(SHORT_CANVAS);
@@ -326,8 +325,9 @@ fn paint_told(
         return CanvasAnswer::Refused(late_refusal(unit, spu));
     };
     let palette = c.palette;
-    match spu::decode_told(unit, spu, pixels, words) {
-        SpuAnswer::Shows(s) => {
+    match spu::decode_rows(unit, spu, pixels) {
+        FieldAnswer::Rows(counts) => {
+            let words = b.words;
             paint(
                 palette,
                 spu.palette_sel,
@@ -340,26 +340,20 @@ fn paint_told(
                 &pixels[..],
                 canvas,
             );
-            CanvasAnswer::Paints(shown_of(c, s, times))
+            CanvasAnswer::Paints(shown_of(c, spu::with_counts(spu, counts), times))
         }
-        SpuAnswer::Refused(number) => CanvasAnswer::Refused(number),
+        FieldAnswer::Refused(number) => CanvasAnswer::Refused(number),
     }
 }
 
-// A unit of the cue c: what is shown, with its map, bands and canvas in the front of the lent buffers, which are as
-// found on a refusal.
+// A unit of the cue c: what is shown, with its map and its canvas in the front of the lent buffers, which are as found on
+// a refusal.
 // Ruled out: a canvas in the map's place; a canvas of rows that are refused; one of a cue whose times leave.
-fn paint_unit(
-    unit: &[u8],
-    c: CueAnswer,
-    pixels: &mut [u8],
-    words: &mut [u16],
-    canvas: &mut [u8],
-) -> CanvasAnswer
-    ensures { λ r. ⌜ UnitPainted (now (unit .entry)) c (now (pixels .entry)) (now (words .entry)) (now (canvas .entry)) r (now (pixels .exit)) (now (words .exit)) (now (canvas .exit)) ⌝ }
+fn paint_unit(unit: &[u8], c: CueAnswer, pixels: &mut [u8], canvas: &mut [u8]) -> CanvasAnswer
+    ensures { λ r. ⌜ UnitPainted (now (unit .entry)) c (now (pixels .entry)) (now (canvas .entry)) r (now (pixels .exit)) (now (canvas .exit)) ⌝ }
 {
     match control::parse_control(unit) {
-        ControlAnswer::Tells(spu) => paint_told(unit, spu, c, pixels, words, canvas),
+        ControlAnswer::Tells(spu) => paint_told(unit, spu, c, pixels, canvas),
         ControlAnswer::Refused(number) => CanvasAnswer::Refused(number),
     }
 }
@@ -371,13 +365,12 @@ fn paint_found<'a>(
     unit: UnitAnswer,
     c: CueAnswer,
     pixels: &mut [u8],
-    words: &mut [u16],
     canvas: &mut [u8],
 ) -> CanvasAnswer
-    ensures { λ r. ⌜ UnitPainted (unitPart (now (file .entry)) (now (scratch .entry)) (c .position) unit) c (now (pixels .entry)) (now (words .entry)) (now (canvas .entry)) r (now (pixels .exit)) (now (words .exit)) (now (canvas .exit)) ⌝ }
+    ensures { λ r. ⌜ UnitPainted (unitPart (now (file .entry)) (now (scratch .entry)) (c .position) unit) c (now (pixels .entry)) (now (canvas .entry)) r (now (pixels .exit)) (now (canvas .exit)) ⌝ }
 {
     let bytes = ps::unit_part(file, scratch, c.position as usize, unit);
-    paint_unit(bytes, c, pixels, words, canvas)
+    paint_unit(bytes, c, pixels, canvas)
 }
 
 // The refusal of a text or of a cue: of a text first, then of a stream, then of a cue that is not there.
@@ -394,8 +387,8 @@ fn first_refusal(refused: u8, stream: usize) -> u8
 }
 
 // The cue with that number in that stream, from index text and file: what is shown of it, with its canvas in the front
-// of `canvas`, its index map in the front of `pixels`, its bands in the front of `words`, and its unit in the front of
-// `scratch` where packets hold it. A refusal leaves all as found, but for a unit that was already joined in scratch.
+// of `canvas`, its index map in the front of `pixels`, and its unit in the front of `scratch` where packets hold it. A
+// refusal leaves all as found, but for a unit that was already joined in scratch.
 // Ruled out: a canvas of another cue's or another stream's unit; a refusal where these files have a reading for the cue
 // and the stream and the buffers are long enough.
 pub fn decode_cue(
@@ -405,12 +398,11 @@ pub fn decode_cue(
     stream: usize,
     scratch: &mut [u8],
     pixels: &mut [u8],
-    words: &mut [u16],
     canvas: &mut [u8],
 ) -> CanvasAnswer
-    ensures { λ r. ⌜ CuePainted (now (text .entry)) (now (file .entry)) (wanted cue stream) (lent (now (scratch .entry)) (now (pixels .entry)) (now (words .entry)) (now (canvas .entry))) r (lent (now (scratch .exit)) (now (pixels .exit)) (now (words .exit)) (now (canvas .exit)))
-        × Exactly (now (text .entry)) (now (file .entry)) (wanted cue stream) (lent (now (scratch .entry)) (now (pixels .entry)) (now (words .entry)) (now (canvas .entry))) r (lent (now (scratch .exit)) (now (pixels .exit)) (now (words .exit)) (now (canvas .exit)))
-        × Undisturbed (now (text .entry)) (now (file .entry)) (wanted cue stream) (lent (now (scratch .entry)) (now (pixels .entry)) (now (words .entry)) (now (canvas .entry))) r (lent (now (scratch .exit)) (now (pixels .exit)) (now (words .exit)) (now (canvas .exit))) ⌝ }
+    ensures { λ r. ⌜ CuePainted (now (text .entry)) (now (file .entry)) (wanted cue stream) (lent (now (scratch .entry)) (now (pixels .entry)) (now (canvas .entry))) r (lent (now (scratch .exit)) (now (pixels .exit)) (now (canvas .exit)))
+        × Exactly (now (text .entry)) (now (file .entry)) (wanted cue stream) (lent (now (scratch .entry)) (now (pixels .entry)) (now (canvas .entry))) r (lent (now (scratch .exit)) (now (pixels .exit)) (now (canvas .exit)))
+        × Undisturbed (now (text .entry)) (now (file .entry)) (wanted cue stream) (lent (now (scratch .entry)) (now (pixels .entry)) (now (canvas .entry))) r (lent (now (scratch .exit)) (now (pixels .exit)) (now (canvas .exit))) ⌝ }
 {
     let request = Request { cue, stream };
     let c = idx::pick_cue(text, request.cue);
@@ -424,7 +416,6 @@ pub fn decode_cue(
             UnitAnswer::Bare(n),
             c,
             pixels,
-            words,
             canvas,
         ),
         UnitAnswer::Joined(n) => paint_found(
@@ -433,7 +424,6 @@ pub fn decode_cue(
             UnitAnswer::Joined(n),
             c,
             pixels,
-            words,
             canvas,
         ),
         UnitAnswer::Refused(number) => CanvasAnswer::Refused(number),

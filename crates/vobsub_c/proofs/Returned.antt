@@ -22,7 +22,7 @@ use Rattle.rle_model.specs.Field.{decoded}
 use Rattle.rle_model.specs.Answers.{fieldAnswer}
 use Rattle.rle_model.proofs.Refusals.{decoded-numbered}
 use Rattle.spu_model.specs.Unit.{unitIn}
-use Rattle.spu_model.specs.Answers.{spuAnswer}
+use Rattle.spu_model.specs.Answers.{recordGiven}
 use Rattle.spu_model.proofs.Refusals.{unit-numbered}
 use Rattle.demo_model.specs.Unit.{demoAt}
 use Rattle.demo_model.specs.Answers.{demoGiven}
@@ -33,11 +33,10 @@ use Rattle.idx_model.proofs.Refusals.{text-numbered, pick-numbered}
 use Rattle.vobsub_model.specs.Call.{Lent, readingIn}
 use Rattle.vobsub_model.specs.Answers.{canvasAnswer}
 use Rattle.vobsub_model.proofs.Refusals.{reading-numbered}
-use Rattle.vobsub_c.specs.Answers.{bandRefusal, unitRefusal, fieldRefusal, spuRefusal, demoRefusal, canvasRefusal}
+use Rattle.vobsub_c.specs.Answers.{bandRefusal, unitRefusal, fieldRefusal, demoRefusal, canvasRefusal}
 
-pub bands-returned : (s : List ℕ) (at : ℕ) (ws : List ℕ) (r : ℕ) → r ≡ bandRefusal (countOf 0 (stored s at ws))
-    → Returned (stored s at ws) r
-bands-returned s at ws r e = returned (stored s at ws) r (stored-numbered s at ws) (e ∙ go (stored s at ws))
+pub bands-returned : (s : List ℕ) (r : ℕ) → r ≡ bandRefusal (countOf 0 (stored s)) → Returned (stored s) r
+bands-returned s r e = returned (stored s) r (stored-numbered s) (e ∙ go (stored s))
   where
     go : (x : Res (List ℕ)) → bandRefusal (countOf 0 x) ≡ refusalOf x
     go (ok v) = refl
@@ -63,10 +62,10 @@ field-returned s w h start px r e = returned (decoded s w h start px) r (decoded
     go (ok rs) = refl
     go (refuse n) = refl
 
-pub spu-returned : (u : List ℕ) (n m r : ℕ) → r ≡ spuRefusal (spuAnswer (unitIn u n m)) → Returned (unitIn u n m) r
-spu-returned u n m r e = returned (unitIn u n m) r (unit-numbered u n m) (e ∙ go (unitIn u n m))
+pub record-returned : (u : List ℕ) (n r : ℕ) → r ≡ recordGiven (unitIn u n) .refused → Returned (unitIn u n) r
+record-returned u n r e = returned (unitIn u n) r (unit-numbered u n) (e ∙ go (unitIn u n))
   where
-    go : (x : Res ListedUnit) → spuRefusal (spuAnswer x) ≡ refusalOf x
+    go : (x : Res ListedUnit) → recordGiven x .refused ≡ refusalOf x
     go (ok l) = refl
     go (refuse k) = refl
 

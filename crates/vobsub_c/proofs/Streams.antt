@@ -12,7 +12,7 @@ use Rattle.grammar.proofs.Streams.{readings-same}
 use Rattle.ps_model.specs.Answers.{unitGiven, unitStored}
 use Rattle.ps_model.proofs.Streams.{stream-same}
 use Rattle.vobsub_model.specs.Call.{Lent, Found}
-use Rattle.vobsub_model.specs.Answers.{canvasAnswer, scratchOf, pixelsOf, bandsOf, paintedOf}
+use Rattle.vobsub_model.specs.Answers.{canvasAnswer, scratchOf, pixelsOf, paintedOf}
 use Rattle.vobsub_model.proofs.Streams.{found-same, reading-same}
 use Rattle.vobsub_c.specs.Answers.{unitRefusal, unitLength, unitJoined, UnitExtracted, UnitUndisturbed, canvasRefusal, canvasTimes, canvasRecord, CueDecoded, CueUndisturbed}
 
@@ -47,7 +47,6 @@ cue-kept text f q b zs ns r b′ zs′ ns′ x = (
         told = x .told ∙ ap (λ (v : Res Reading). canvasRecord (canvasAnswer v) ns) o ∙ sym (y .told);
         scratch = x .in-scratch ∙ ap (λ (v : Res Found). sets (b .scratch) 0 (scratchOf v)) d ∙ sym (y .in-scratch);
         pixels = x .in-pixels ∙ ap (λ (v : Res Reading). sets (b .pixels) 0 (pixelsOf v)) o ∙ sym (y .in-pixels);
-        words = x .in-words ∙ ap (λ (v : Res Reading). sets (b .words) 0 (bandsOf v)) o ∙ sym (y .in-words);
         canvas = x .in-canvas ∙ ap (λ (v : Res Reading). sets (b .canvas) 0 (paintedOf v)) o ∙ sym (y .in-canvas);
       },
 )

@@ -11,7 +11,7 @@ use lib.IntN.{ℤ}
 use lib.ListN.{length, take}
 use lib.Seq.{sets}
 use Rattle.outcome.specs.Outcome.{Res, ok, refuse, listed, listedBy, refusalOf, Returned}
-use Rattle.bands_model.specs.Answers.{countOf, stored}
+use Rattle.bands_model.specs.Answers.{countOf, stored, arrayAfter}
 use Rattle.bands_model.specs.declared.BandAnswer.{BandAnswer}
 use Rattle.bands_model.specs.declared.BandAnswer.the-variants as band-answer
 use Rattle.grammar.specs.Index.{ListedText, IsText}
@@ -38,14 +38,13 @@ use Rattle.demo_model.specs.Claim.{RoundTrip}
 use Rattle.demo_model.specs.declared.DemoAnswer.{DemoAnswer}
 use Rattle.demo_model.specs.declared.DemoAnswer.the-variants as demo-answer
 use Rattle.spu_model.specs.Unit.{unitIn}
-use Rattle.spu_model.specs.Answers.{spuAnswer, unitMap, unitBands}
-use Rattle.spu_model.specs.declared.SpuAnswer.{SpuAnswer}
-use Rattle.spu_model.specs.declared.SpuAnswer.the-variants as spu-answer
+use Rattle.spu_model.specs.Answers.{recordGiven, unitMap}
+use Rattle.spu_model.specs.declared.Record.{Record}
 use Rattle.grammar.specs.Record.{given}
 use Rattle.grammar.specs.Reading.{Wanted, wantedId, Reading, IsReading, shown}
 use Rattle.clock_model.specs.Answers.{timeOr0}
 use Rattle.vobsub_model.specs.Call.{Lent, foundFor, readingIn}
-use Rattle.vobsub_model.specs.Answers.{canvasAnswer, scratchOf, pixelsOf, bandsOf, paintedOf}
+use Rattle.vobsub_model.specs.Answers.{canvasAnswer, scratchOf, pixelsOf, paintedOf}
 use Rattle.vobsub_model.specs.Claim.{Room, Exactly}
 use Rattle.vobsub_model.specs.declared.CanvasAnswer.{CanvasAnswer}
 use Rattle.vobsub_model.specs.declared.CanvasAnswer.the-variants as canvas-answer
@@ -61,11 +60,12 @@ abbrev pub bandCount : BandAnswer → ℕ → ℕ
 bandCount (band-answer.Words n) before = n
 bandCount (band-answer.Refused k) before = before
 
-pub record BandsGiven (payload words : List ℕ) (at count r : ℕ) (words′ : List ℕ) (count′ : ℕ) : Type 0 where
-  pub refusal : r ≡ bandRefusal (countOf 0 (stored payload at words))
-  pub returned : Returned (stored payload at words) r
-  pub counted : count′ ≡ bandCount (countOf 0 (stored payload at words)) count
-  pub stores : words′ ≡ sets words at (listed (stored payload at words))
+pub record BandsGiven (payload bands : List ℕ) (count r : ℕ) (bands′ : List ℕ) (count′ : ℕ) : Type 0 where
+  pub refusal : r ≡ bandRefusal (countOf 0 (stored payload))
+  pub returned : Returned (stored payload) r
+  pub counted : count′ ≡ bandCount (countOf 0 (stored payload)) count
+  pub stores : bands′ ≡ arrayAfter bands (stored payload)
+  pub as-found : (r ≡ 0 → ⊥) → (bands′ ≡ bands) × (count′ ≡ count)
 
 abbrev pub unitRefusal : UnitAnswer → ℕ
 unitRefusal (unit-answer.Bare n) = 0
@@ -133,21 +133,20 @@ pub record FieldDecoded (field : List ℕ) (w h start : ℕ) (pixels : List ℕ)
   pub clipped-are : clipped′ ≡ fieldNumber (λ n. n .clipped) (fieldAnswer w (decoded field w h start pixels)) clipped
   pub stores : pixels′ ≡ paintField w (start * w) (listed (decoded field w h start pixels)) pixels
 
-abbrev pub spuRefusal : SpuAnswer → ℕ
-spuRefusal (spu-answer.Shows s) = 0
-spuRefusal (spu-answer.Refused k) = k
+-- the numbers and the bands of a record where nothing is refused, or what was there
+abbrev pub recordNumbers : Record → List ℕ → List ℕ
+recordNumbers a before = cond (eqb (a .refused) 0) (spuNumbers (a .spu)) before
 
--- and of an answer, or those that were there
-abbrev pub spuRecord : SpuAnswer → List ℕ → List ℕ
-spuRecord (spu-answer.Shows s) before = spuNumbers s
-spuRecord (spu-answer.Refused k) before = before
+abbrev pub recordBands : Record → List ℕ → List ℕ
+recordBands a before = cond (eqb (a .refused) 0) (a .bands) before
 
-pub record UnitDecoded (unit pixels words before : List ℕ) (r : ℕ) (pixels′ words′ after : List ℕ) : Type 0 where
-  pub refusal : r ≡ spuRefusal (spuAnswer (unitIn unit (length pixels) (length words)))
-  pub returned : Returned (unitIn unit (length pixels) (length words)) r
-  pub told : after ≡ spuRecord (spuAnswer (unitIn unit (length pixels) (length words))) before
-  pub paints : pixels′ ≡ sets pixels 0 (unitMap (unitIn unit (length pixels) (length words)))
-  pub stores : words′ ≡ sets words 0 (unitBands (unitIn unit (length pixels) (length words)))
+pub record UnitDecoded (unit pixels bands before : List ℕ) (r : ℕ) (pixels′ bands′ after : List ℕ) : Type 0 where
+  pub refusal : r ≡ recordGiven (unitIn unit (length pixels)) .refused
+  pub returned : Returned (unitIn unit (length pixels)) r
+  pub told : after ≡ recordNumbers (recordGiven (unitIn unit (length pixels))) before
+  pub paints : pixels′ ≡ sets pixels 0 (unitMap (unitIn unit (length pixels)))
+  pub stores : bands′ ≡ recordBands (recordGiven (unitIn unit (length pixels))) bands
+  pub as-found : (r ≡ 0 → ⊥) → (pixels′ ≡ pixels) × (bands′ ≡ bands) × (after ≡ before)
 
 abbrev pub demoRefusal : DemoAnswer → ℕ
 demoRefusal (demo-answer.Wrote n) = 0
@@ -218,7 +217,7 @@ pub record ReadingTold (x : Reading) (times : List ℤ) (numbers : List ℕ) : T
       ∷ shown x .x1 ∷ shown x .y1 ∷ shown x .width ∷ shown x .height ∷ shown x .codes ∷ shown x .clipped
       ∷ cond (shown x .started) 1 0 ∷ cond (shown x .stopped) 1 0 ∷ cond (given (shown x .hide)) 1 0 ∷ []
 
--- the answer with its numbers, what the four buffers hold, and the call's claim on whole files, for what is told too
+-- the answer with its numbers, what the three buffers hold, and the call's claim on whole files, for what is told too
 pub record CueDecoded (text file : List ℕ) (q : Wanted) (b : Lent) (times : List ℤ) (numbers : List ℕ) (r : ℕ) (b′ : Lent) (times′ : List ℤ) (numbers′ : List ℕ) : Type 0 where
   pub refusal : r ≡ canvasRefusal (canvasAnswer (readingIn text file q b))
   pub returned : Returned (readingIn text file q b) r
@@ -226,7 +225,6 @@ pub record CueDecoded (text file : List ℕ) (q : Wanted) (b : Lent) (times : Li
   pub told : numbers′ ≡ canvasRecord (canvasAnswer (readingIn text file q b)) numbers
   pub in-scratch : b′ .scratch ≡ sets (b .scratch) 0 (scratchOf (foundFor text file q (length (b .scratch))))
   pub in-pixels : b′ .pixels ≡ sets (b .pixels) 0 (pixelsOf (readingIn text file q b))
-  pub in-words : b′ .words ≡ sets (b .words) 0 (bandsOf (readingIn text file q b))
   pub in-canvas : b′ .canvas ≡ sets (b .canvas) 0 (paintedOf (readingIn text file q b))
   pub exactly : Exactly text file q b (canvasAnswer (readingIn text file q b)) b′
   pub reading-told : (x : Reading) → IsReading text file q x → Room x b → ReadingTold x times′ numbers′
@@ -239,7 +237,6 @@ pub record SameDecoded (text file other : List ℕ) (q : Wanted) (r t : ℕ) (b 
   pub told : numbers ≡ numbers′
   pub scratch : b .scratch ≡ c .scratch
   pub pixels : b .pixels ≡ c .pixels
-  pub words : b .words ≡ c .words
   pub canvas : b .canvas ≡ c .canvas
 
 -- a file that differs from this one in packets of other streams alone, among those walked from the cue's position,

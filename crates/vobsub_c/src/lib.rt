@@ -5,7 +5,6 @@ use demo_model::DemoAnswer;
 use outcome::NO_UNIT;
 use ps_model::UnitAnswer;
 use rle_model::FieldAnswer;
-use spu_model::SpuAnswer;
 use vobsub_model::CanvasAnswer;
 use vobsub_numbers::cue_numbers_of;
 use vobsub_numbers::idx_numbers_of;
@@ -16,18 +15,17 @@ ghost use Rattle.grammar.specs.Reading.{wanted};
 ghost use Rattle.vobsub_model.specs.Call.{lent};
 ghost use Rattle.vobsub_c.specs.Answers.{BandsGiven, UnitExtracted, UnitUndisturbed, FieldDecoded, BodyFound, UnitDecoded, UnitWritten, IndexGiven, CueGiven, CueDecoded, CueUndisturbed};
 
-// The bands in a payload, stored from place `at` of the lent words on, and how many words they take.
-// Ruled out: a count set on a refusal; words before `at` changed.
+// The bands in a payload, as words with 0 after them, and how many words they take.
+// Ruled out: a count set on a refusal; an array written on a refusal.
 #[no_mangle]
 pub extern "C" fn vobsub_parse_chg_colcon_payload(
     payload: &[u8],
-    words: &mut [u16],
-    at: usize,
+    bands: &mut [u16; 1536],
     count: &mut usize,
 ) -> u8
-    ensures { λ r. ⌜ BandsGiven (now (payload .entry)) (now (words .entry)) at (now (count .entry)) r (now (words .exit)) (now (count .exit)) ⌝ }
+    ensures { λ r. ⌜ BandsGiven (now (payload .entry)) (now (bands .entry)) (now (count .entry)) r (now (bands .exit)) (now (count .exit)) ⌝ }
 {
-    match chg_colcon::parse_chg_colcon_payload(payload, words, at) {
+    match chg_colcon::parse_chg_colcon_payload(payload, bands) {
         BandAnswer::Words(n) => {
             *count = n;
             0
@@ -106,24 +104,25 @@ pub extern "C" fn vobsub_decode_rle_field(
     }
 }
 
-// A unit's picture as colour numbers in the front of `pixels`, its bands in the front of `words`, and the numbers of its record.
+// A unit's picture as colour numbers in the front of `pixels`, its bands as words with 0 after them, and the numbers of its record.
 // Ruled out: a record stored on a refusal; a unit accepted whose record is left as found.
 #[no_mangle]
 pub extern "C" fn vobsub_parse_and_decode_spu(
     unit: &[u8],
     pixels: &mut [u8],
-    words: &mut [u16],
+    bands: &mut [u16; 1536],
     numbers: &mut [usize; 17],
 ) -> u8
-    ensures { λ r. ⌜ UnitDecoded (now (unit .entry)) (now (pixels .entry)) (now (words .entry)) (now (numbers .entry)) r (now (pixels .exit)) (now (words .exit)) (now (numbers .exit)) ⌝ }
+    ensures { λ r. ⌜ UnitDecoded (now (unit .entry)) (now (pixels .entry)) (now (bands .entry)) (now (numbers .entry)) r (now (pixels .exit)) (now (bands .exit)) (now (numbers .exit)) ⌝ }
 {
-    match spu::parse_and_decode_spu(unit, pixels, words) {
-        SpuAnswer::Shows(s) => {
-            *numbers = numbers_of(s);
-            0
-        }
-        SpuAnswer::Refused(number) => number,
+    let a = spu::parse_and_decode_spu(unit, pixels);
+    if a.refused == 0 {
+        let words = a.bands;
+        *bands = words;
+        *numbers = numbers_of(a.spu);
+        return 0;
     }
+    a.refused
 }
 
 // A picture as a unit in the front of `out`, and the unit's length.
@@ -195,8 +194,8 @@ pub extern "C" fn vobsub_pick_cue(
 }
 
 // One cue of a title in one stream, from index text and file: its canvas in the front of `canvas`, its index map in the
-// front of `pixels`, its bands in the front of `words`, its unit in the front of `scratch` where packets hold it, its
-// start with its show and hide times, and its other numbers.
+// front of `pixels`, its unit in the front of `scratch` where packets hold it, its start with its show and hide times,
+// and its other numbers.
 // Ruled out: times or numbers set on a refusal; a canvas whose times are left as found.
 #[no_mangle]
 pub extern "C" fn vobsub_decode_cue(
@@ -206,15 +205,14 @@ pub extern "C" fn vobsub_decode_cue(
     stream: usize,
     scratch: &mut [u8],
     pixels: &mut [u8],
-    words: &mut [u16],
     canvas: &mut [u8],
     times: &mut [i64; 3],
     numbers: &mut [u64; 13],
 ) -> u8
-    ensures { λ r. ⌜ CueDecoded (now (text .entry)) (now (file .entry)) (wanted cue stream) (lent (now (scratch .entry)) (now (pixels .entry)) (now (words .entry)) (now (canvas .entry))) (now (times .entry)) (now (numbers .entry)) r (lent (now (scratch .exit)) (now (pixels .exit)) (now (words .exit)) (now (canvas .exit))) (now (times .exit)) (now (numbers .exit))
-        × CueUndisturbed (now (text .entry)) (now (file .entry)) (wanted cue stream) (lent (now (scratch .entry)) (now (pixels .entry)) (now (words .entry)) (now (canvas .entry))) (now (times .entry)) (now (numbers .entry)) r (lent (now (scratch .exit)) (now (pixels .exit)) (now (words .exit)) (now (canvas .exit))) (now (times .exit)) (now (numbers .exit)) ⌝ }
+    ensures { λ r. ⌜ CueDecoded (now (text .entry)) (now (file .entry)) (wanted cue stream) (lent (now (scratch .entry)) (now (pixels .entry)) (now (canvas .entry))) (now (times .entry)) (now (numbers .entry)) r (lent (now (scratch .exit)) (now (pixels .exit)) (now (canvas .exit))) (now (times .exit)) (now (numbers .exit))
+        × CueUndisturbed (now (text .entry)) (now (file .entry)) (wanted cue stream) (lent (now (scratch .entry)) (now (pixels .entry)) (now (canvas .entry))) (now (times .entry)) (now (numbers .entry)) r (lent (now (scratch .exit)) (now (pixels .exit)) (now (canvas .exit))) (now (times .exit)) (now (numbers .exit)) ⌝ }
 {
-    match vobsub::decode_cue(text, file, cue, stream, scratch, pixels, words, canvas) {
+    match vobsub::decode_cue(text, file, cue, stream, scratch, pixels, canvas) {
         CanvasAnswer::Paints(s) => {
             *times = shown_times_of(s);
             *numbers = shown_numbers_of(s);

@@ -16,7 +16,7 @@ use Rattle.grammar.specs.IndexCues.{Cue, cuesOf, cueAt}
 use Rattle.grammar.specs.Packets.{Form, bare, packets, unitOf, streamId, top-stream}
 use Rattle.grammar.specs.Record.{told}
 use Rattle.grammar.specs.Picture.{ListedUnit}
-use Rattle.grammar.specs.Reading.{Wanted, Reading, startAt, toldBy, readingStart, shown, mapOf, wordsOf, unitCanvas, canvasOf}
+use Rattle.grammar.specs.Reading.{Wanted, Reading, startAt, toldBy, readingStart, shown, mapOf, unitCanvas, canvasOf}
 use Rattle.clock_model.specs.Clock.{toldStay, inTime}
 use Rattle.clock_model.specs.Answers.{micros}
 use Rattle.clock_model.proofs.Clock.{time-through}
@@ -34,10 +34,10 @@ use Rattle.ps_model.specs.declared.UnitAnswer.{UnitAnswer}
 use Rattle.ps_model.specs.declared.UnitAnswer.the-variants as unit-answer
 use Rattle.ps_model.proofs.Grammar.{form-iff}
 use Rattle.ps_model.proofs.Claim.{stream-sound, unit-there}
-use Rattle.spu_model.specs.Answers.{unitMap, unitBands}
+use Rattle.spu_model.specs.Answers.{unitMap}
 use Rattle.grammar.specs.Reading.{wanted}
 use Rattle.vobsub_model.specs.Call.{Lent, lent, Found, found, foundFor, canvasIn, timedIn, reading, listedIn, readingIn}
-use Rattle.vobsub_model.specs.Answers.{canvasStored, timesTold, shownOf, paintsOf, UnitPainted, firstRefusal, shownGiven, canvasAnswer, scratchOf, pixelsOf, bandsOf, paintedOf, CuePainted}
+use Rattle.vobsub_model.specs.Answers.{canvasStored, timesTold, shownOf, paintsOf, UnitPainted, firstRefusal, shownGiven, canvasAnswer, scratchOf, pixelsOf, paintedOf, CuePainted}
 use Rattle.vobsub_model.specs.Claim.{Exactly, Undisturbed}
 use Rattle.vobsub_model.proofs.Claim.{claim}
 use Rattle.vobsub_model.proofs.Streams.{undisturbed}
@@ -58,15 +58,15 @@ found-at text file cue stream n index at p e f g = rw (e, f, g) (go (leb stream 
     go true = refl
     go false = refl
 
-module _ (text file : List ℕ) (cue stream : ℕ) (s px ws cv : List ℕ) where
+module _ (text file : List ℕ) (cue stream : ℕ) (s px cv : List ℕ) where
   abbrev before : Lent
-  before = lent s px ws cv
+  before = lent s px cv
 
   -- a unit that is not found: nothing is stored
   refused-all : (n : ℕ) → foundFor text file (wanted cue stream) (length s) ≡ refuse n
       → CuePainted text file (wanted cue stream) before (canvas-answer.Refused n) before
   unfolding readingIn listedIn
-  refused-all n e = record { answer = rw e; in-scratch = rw e; in-pixels = rw e; in-words = rw e; in-canvas = rw e }
+  refused-all n e = record { answer = rw e; in-scratch = rw e; in-pixels = rw e; in-canvas = rw e }
 
   module _ (c : CueAnswer) (e : c ≡ cueAnswer (pickOf (idxOf text) cue)) where
     -- the text is refused, or the cue is not there
@@ -125,17 +125,17 @@ module _ (text file : List ℕ) (cue stream : ℕ) (s px ws cv : List ℕ) where
       -- and its unit is not found
       pub unit-none : (r : UnitAnswer) (n : ℕ) (s′ : List ℕ) → Extracted file (c .position) stream s r s′
           → r ≡ unit-answer.Refused n
-          → CuePainted text file (wanted cue stream) before (canvas-answer.Refused n) (lent s′ px ws cv)
+          → CuePainted text file (wanted cue stream) before (canvas-answer.Refused n) (lent s′ px cv)
       unit-none r n s′ d q = go (streamUnit stream file (c .position) (length s)) refl (sym q ∙ d .answer) (d .scratch)
         where
           go : (x : Res Form) → streamUnit stream file (c .position) (length s) ≡ x
               → unit-answer.Refused n ≡ unitGiven x → s′ ≡ sets s 0 (unitStored x)
-              → CuePainted text file (wanted cue stream) before (canvas-answer.Refused n) (lent s′ px ws cv)
+              → CuePainted text file (wanted cue stream) before (canvas-answer.Refused n) (lent s′ px cv)
           go (ok (bare u)) f g k = let z : _≡_ {A = ℕ} 0 1 = cc in absurd (omega arith)
           go (ok (packets ps)) f g k = let z : _≡_ {A = ℕ} 0 1 = cc in absurd (omega arith)
           go (refuse m) f g k =
               let z : n ≡ m = cc in
-              subst (λ (l : List ℕ). CuePainted text file (wanted cue stream) before (canvas-answer.Refused n) (lent l px ws cv)) (sym k)
+              subst (λ (l : List ℕ). CuePainted text file (wanted cue stream) before (canvas-answer.Refused n) (lent l px cv)) (sym k)
               (refused-all n (found-is ∙ ap (mapRes (found index)) f ∙ ap refuse (sym z)))
 
       start-is : c .start .0 ≡ startAt (cueAt (cuesOf index) cue)
@@ -169,9 +169,9 @@ module _ (text file : List ℕ) (cue stream : ℕ) (s px ws cv : List ℕ) where
 
       module _ (m : Form) (f : streamUnit stream file (c .position) (length s) ≡ ok m) where
         abbrev found-in : Res ListedUnit
-        found-in = timedIn (c .start .0) (unitOf m) (length px) (length ws) (length cv)
+        found-in = timedIn (c .start .0) (unitOf m) (length px) (length cv)
 
-        listed : listedIn text file (wanted cue stream) before ≡ mapRes (reading (wanted cue stream) (found index m)) (canvasIn (unitOf m) (length px) (length ws) (length cv))
+        listed : listedIn text file (wanted cue stream) before ≡ mapRes (reading (wanted cue stream) (found index m)) (canvasIn (unitOf m) (length px) (length cv))
         unfolding listedIn
         listed = rw (found-is ∙ ap (mapRes (found index)) f)
 
@@ -179,21 +179,20 @@ module _ (text file : List ℕ) (cue stream : ℕ) (s px ws cv : List ℕ) where
         unfolding readingIn timedIn
         reads =
             ap (inTime (λ x. toldStay (readingStart x) (toldBy x))) listed
-            ∙ time-through (reading (wanted cue stream) (found index m)) (λ x. toldStay (readingStart x) (toldBy x)) (canvasIn (unitOf m) (length px) (length ws) (length cv))
+            ∙ time-through (reading (wanted cue stream) (found index m)) (λ x. toldStay (readingStart x) (toldBy x)) (canvasIn (unitOf m) (length px) (length cv))
             ∙ ap
-            (λ (z : ℤ). mapRes (reading (wanted cue stream) (found index m)) (inTime (λ (l : ListedUnit). toldStay z (told (l .blocks))) (canvasIn (unitOf m) (length px) (length ws) (length cv))))
+            (λ (z : ℤ). mapRes (reading (wanted cue stream) (found index m)) (inTime (λ (l : ListedUnit). toldStay z (told (l .blocks))) (canvasIn (unitOf m) (length px) (length cv))))
             (sym start-is)
 
-        painted-all : (a : CanvasAnswer) (s′ px′ ws′ cv′ : List ℕ) → s′ ≡ sets s 0 (formStored m)
-            → UnitPainted (unitOf m) c px ws cv a px′ ws′ cv′
-            → CuePainted text file (wanted cue stream) before a (lent s′ px′ ws′ cv′)
-        unfolding mapOf wordsOf canvasOf
-        painted-all a s′ px′ ws′ cv′ k d =
+        painted-all : (a : CanvasAnswer) (s′ px′ cv′ : List ℕ) → s′ ≡ sets s 0 (formStored m)
+            → UnitPainted (unitOf m) c px cv a px′ cv′
+            → CuePainted text file (wanted cue stream) before a (lent s′ px′ cv′)
+        unfolding mapOf canvasOf
+        painted-all a s′ px′ cv′ k d =
             record {
               answer = d .answer ∙ answers found-in ∙ ap canvasAnswer (sym reads);
               in-scratch = k ∙ ap (λ (x : Res Found). sets s 0 (scratchOf x)) (sym (found-is ∙ ap (mapRes (found index)) f));
               in-pixels = d .pixels ∙ ap (sets px 0) (maps found-in) ∙ ap (λ (x : Res Reading). sets px 0 (pixelsOf x)) (sym reads);
-              in-words = d .words ∙ ap (sets ws 0) (bands found-in) ∙ ap (λ (x : Res Reading). sets ws 0 (bandsOf x)) (sym reads);
               in-canvas = d .canvas ∙ ap (sets cv 0) (canvases found-in) ∙ ap (λ (x : Res Reading). sets cv 0 (paintedOf x)) (sym reads);
             }
           where
@@ -206,11 +205,6 @@ module _ (text file : List ℕ) (cue stream : ℕ) (s px ws cv : List ℕ) where
             maps (ok l) = refl
             maps (refuse n) = refl
 
-            bands : (x : Res ListedUnit)
-                → unitBands x ≡ bandsOf (mapRes (reading (wanted cue stream) (found index m)) x)
-            bands (ok l) = refl
-            bands (refuse n) = refl
-
             canvases : (x : Res ListedUnit)
                 → canvasStored (c .palette) x ≡ paintedOf (mapRes (reading (wanted cue stream) (found index m)) x)
             canvases (ok l) = ap (λ (p : List ℕ). unitCanvas p l) (gives .palette)
@@ -219,13 +213,13 @@ module _ (text file : List ℕ) (cue stream : ℕ) (s px ws cv : List ℕ) where
       -- its unit is found, and painted
       pub unit-some : (r : UnitAnswer) (s′ : List ℕ) → Extracted file (c .position) stream s r s′
           → ((n : ℕ) → r ≡ unit-answer.Refused n → ⊥)
-          → (a : CanvasAnswer) (px′ ws′ cv′ : List ℕ) → UnitPainted (unitPart file s′ (c .position) r) c px ws cv a px′ ws′ cv′
-          → CuePainted text file (wanted cue stream) before a (lent s′ px′ ws′ cv′)
-      unit-some r s′ d o a px′ ws′ cv′ p = go (streamUnit stream file (c .position) (length s)) refl (d .answer) (d .scratch)
+          → (a : CanvasAnswer) (px′ cv′ : List ℕ) → UnitPainted (unitPart file s′ (c .position) r) c px cv a px′ cv′
+          → CuePainted text file (wanted cue stream) before a (lent s′ px′ cv′)
+      unit-some r s′ d o a px′ cv′ p = go (streamUnit stream file (c .position) (length s)) refl (d .answer) (d .scratch)
         where
           go : (x : Res Form) → streamUnit stream file (c .position) (length s) ≡ x → r ≡ unitGiven x
               → s′ ≡ sets s 0 (unitStored x)
-              → CuePainted text file (wanted cue stream) before a (lent s′ px′ ws′ cv′)
+              → CuePainted text file (wanted cue stream) before a (lent s′ px′ cv′)
           go (refuse n) f g k = absurd (o n g)
           go (ok m) f g k =
               let t = stream-sound file (c .position) stream (length s) m f in
@@ -234,7 +228,7 @@ module _ (text file : List ℕ) (cue stream : ℕ) (s px ws cv : List ℕ) where
               ap (λ (x : List ℕ). unitPart file x (c .position) r) k
               ∙ ap (unitPart file (sets s 0 (formStored m)) (c .position)) g
               ∙ unit-there (streamId stream) file (c .position) s m (i .1) (t .2) in
-              painted-all m f a s′ px′ ws′ cv′ k (subst (λ (x : List ℕ). UnitPainted x c px ws cv a px′ ws′ cv′) u p)
+              painted-all m f a s′ px′ cv′ k (subst (λ (x : List ℕ). UnitPainted x c px cv a px′ cv′) u p)
 
 -- with both claims
 pub kept : (text file : List ℕ) (q : Wanted) (b : Lent) (r : CanvasAnswer) (b′ : Lent) → CuePainted text file q b r b′

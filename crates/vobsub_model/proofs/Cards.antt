@@ -15,7 +15,6 @@ use Rattle.grammar.specs.Rows.{paints, afterCodes, align}
 use Rattle.grammar.specs.Control.{area, Block}
 use Rattle.grammar.specs.Record.{told, commandsOf, commandsIn, firstDelay, lastDelay, lastNumbers, stands, allBands}
 use Rattle.grammar.specs.Picture.{topEnd}
-use Rattle.grammar.specs.Bands.{bandWords}
 use Rattle.grammar.specs.Reading.{Shown, wanted, shown, canvasOf}
 use Rattle.grammar.proofs.Readings as readings
 use Rattle.idx_numbers_model.specs.Parts.{strip, trim, front, rest, shorn, split, all}
@@ -28,6 +27,7 @@ use Rattle.ps_model.specs.Unit.{unitAt}
 use Rattle.rle_model.specs.Codes.{codeFrom, codeAt, rowAt, fieldAt}
 use Rattle.rle_model.specs.Field.{rowsFrom}
 use Rattle.rle_model.specs.Fields.{weave, lowerAt, fieldsAt}
+use Rattle.control_model.specs.Few.{fewAt}
 use Rattle.control_model.specs.Chain.{plainAt, changeAt, orderAt, commandAt, commandsAt, blockAt, blocksAt, headFits, chainAt, controlAt}
 use Rattle.control_model.specs.Answers.{spuOf}
 use Rattle.spu_model.specs.Unit.{rowsAt}
@@ -37,8 +37,8 @@ use Rattle.vobsub_model.specs.Answers.{canvasStored, timesTold, shownOf,
 use Rattle.vobsub_model.specs.declared.Shown.{Shown as Recorded}
 
 -- `timestamp:0,filepos:0` and the unit `00 04 00 04`, with a map of one pixel and its canvas, are not refused
-pub least-title : refusalOf (readingIn (116 ∷ 105 ∷ 109 ∷ 101 ∷ 115 ∷ 116 ∷ 97 ∷ 109 ∷ 112 ∷ 58 ∷ 48 ∷ 44 ∷ 102 ∷ 105 ∷ 108 ∷ 101 ∷ 112 ∷ 111 ∷ 115 ∷ 58 ∷ 48 ∷ []) (0x00 ∷ 0x04 ∷ 0x00 ∷ 0x04 ∷ []) (wanted 0 0) (lent [] (9 ∷ []) [] (9 ∷ 9 ∷ 9 ∷ 9 ∷ []))) ≡ 0
-unfolding readingIn listedIn timesStay foundFor canvasIn idxIn textIn linesIn lineOf strip trim front rest shorn split partsAt firstOf lastOf fields steps unsigned signed bare all numeral startOf cuesOfLines cueAt unitAt formAt isBare unitOf word bandWords rowsAt fieldsAt lowerAt fieldAt rowAt codeAt codeFrom rowsFrom weave paints afterCodes align topEnd listFrom listFuel nibbles nibble plainAt changeAt orderAt commandAt commandsAt blockAt blocksAt headFits chainAt controlAt told commandsOf commandsIn firstDelay lastDelay lastNumbers stands allBands
+pub least-title : refusalOf (readingIn (116 ∷ 105 ∷ 109 ∷ 101 ∷ 115 ∷ 116 ∷ 97 ∷ 109 ∷ 112 ∷ 58 ∷ 48 ∷ 44 ∷ 102 ∷ 105 ∷ 108 ∷ 101 ∷ 112 ∷ 111 ∷ 115 ∷ 58 ∷ 48 ∷ []) (0x00 ∷ 0x04 ∷ 0x00 ∷ 0x04 ∷ []) (wanted 0 0) (lent [] (9 ∷ []) (9 ∷ 9 ∷ 9 ∷ 9 ∷ []))) ≡ 0
+unfolding readingIn listedIn timesStay foundFor canvasIn fewAt idxIn textIn linesIn lineOf strip trim front rest shorn split partsAt firstOf lastOf fields steps unsigned signed bare all numeral startOf cuesOfLines cueAt unitAt formAt isBare unitOf word rowsAt fieldsAt lowerAt fieldAt rowAt codeAt codeFrom rowsFrom weave paints afterCodes align topEnd listFrom listFuel nibbles nibble plainAt changeAt orderAt commandAt commandsAt blockAt blocksAt headFits chainAt controlAt told commandsOf commandsIn firstDelay lastDelay lastNumbers stands allBands
 least-title = refl
 
 -- the canvas of the 2 by 2 title, from its reading and from its unit

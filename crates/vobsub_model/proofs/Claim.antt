@@ -9,21 +9,20 @@ use lib.ListN.{length}
 use lib.Dec.{leb}
 use lib.Seq.{sets}
 use borrow.Author.Tests.{leb-true, le-leb}
-use Rattle.outcome.specs.Outcome.{Res, ok, refuse, need, bad-stream, no-cue, short-pixels, short-words, short-canvas, long-instant}
+use Rattle.outcome.specs.Outcome.{Res, ok, refuse, need, bad-stream, no-cue, short-pixels, short-canvas, long-instant}
 use Rattle.grammar.proofs.Lengths.{reading-map, reading-canvas}
 use Rattle.outcome.proofs.Laws.{ok-injective, andThen-ok, check-ok, mapRes-ok, need-some}
 use Rattle.grammar.specs.Index.{ListedText, IsText}
 use Rattle.grammar.specs.IndexCues.{Cue, cuesOf, cueAt}
 use Rattle.grammar.specs.Packets.{Form, IsForm, unitOf, top-stream}
-use Rattle.grammar.specs.Bands.{bandWords}
 use Rattle.grammar.specs.Record.{told, given, width, height}
 use Rattle.grammar.specs.Picture.{ListedUnit, IsUnit}
 use Rattle.grammar.specs.Pixels.{clippedIn}
 use Rattle.grammar.specs.Times.{TimeStays}
-use Rattle.grammar.specs.Reading.{Wanted, wantedId, Reading, IsReading, toldBy, readingStart, showOf, hideOf, shown, wordsOf}
+use Rattle.grammar.specs.Reading.{Wanted, wantedId, Reading, IsReading, toldBy, readingStart, showOf, hideOf, shown}
 use Rattle.clock_model.specs.Answers.{timeOr0}
 use Rattle.clock_model.proofs.Clock.{stay-iff}
-use Rattle.control_model.specs.Chain.{controlAt}
+use Rattle.control_model.specs.Few.{fewAt}
 use Rattle.idx_model.specs.Text.{idxOf}
 use Rattle.idx_model.proofs.Grammar.{text-iff, text-unique}
 use Rattle.ps_model.specs.Unit.{unitAt}
@@ -35,42 +34,36 @@ use Rattle.spu_model.specs.Unit as unit-of
 use Rattle.spu_model.proofs.Grammar.{unit-iff, unit-unique}
 use Rattle.clock_model.specs.Clock.{toldStay}
 use Rattle.vobsub_model.specs.Call.{Lent, Found, found, foundFor, canvasIn, reading, listedIn, readingIn}
-use Rattle.vobsub_model.specs.Answers.{shownGiven, canvasAnswer, scratchOf, pixelsOf, bandsOf, paintedOf, CuePainted}
+use Rattle.vobsub_model.specs.Answers.{shownGiven, canvasAnswer, scratchOf, pixelsOf, paintedOf, CuePainted}
 use Rattle.vobsub_model.specs.Claim.{Gives, Room, Equal, Exactly}
 use Rattle.vobsub_model.specs.declared.Shown.{Shown}
 use Rattle.vobsub_model.specs.declared.CanvasAnswer.{CanvasAnswer}
 use Rattle.vobsub_model.specs.declared.CanvasAnswer.the-variants as canvas-answer
 
 -- a unit is found within lent lengths exactly where it is found and they are long enough
-canvas-sound : (u : List ℕ) (n m k : ℕ) (l : ListedUnit) → canvasIn u n m k ≡ ok l
-    → (unit-of.unitAt u ≡ ok l) × (width (told (l .blocks)) * height (told (l .blocks)) ≤ n) × (length (bandWords (told (l .blocks) .bands)) ≤ m) × (4 * (width (told (l .blocks)) * height (told (l .blocks))) ≤ k)
+canvas-sound : (u : List ℕ) (n k : ℕ) (l : ListedUnit) → canvasIn u n k ≡ ok l
+    → (unit-of.unitAt u ≡ ok l) × (width (told (l .blocks)) * height (told (l .blocks)) ≤ n) × (4 * (width (told (l .blocks)) * height (told (l .blocks))) ≤ k)
 unfolding canvasIn unit-of.unitAt
-canvas-sound u n m k l e =
-    let a = andThen-ok (controlAt u) _ e in
+canvas-sound u n k l e =
+    let a = andThen-ok (fewAt u) _ e in
     let bs = a .0 in
     let b = check-ok (leb (width (told bs) * height (told bs)) n) short-pixels _ (a .2) in
-    let c = check-ok (leb (length (bandWords (told bs .bands))) m) short-words _ (b .1) in
-    let d = check-ok (leb (4 * (width (told bs) * height (told bs))) k) short-canvas _ (c .1) in
-    let w = mapRes-ok (listedUnit bs) (rowsAt u (told bs)) (d .1) in
-    let z : bs ≡ l .blocks = ap (λ (x : ListedUnit). x .blocks) (w .2) in (
-      rw (a .1) (d .1),
-      rw (← z) (leb-true _ _ (b .0)),
-      rw (← z) (leb-true _ _ (c .0)),
-      rw (← z) (leb-true _ _ (d .0)),
-    )
+    let c = check-ok (leb (4 * (width (told bs) * height (told bs))) k) short-canvas _ (b .1) in
+    let w = mapRes-ok (listedUnit bs) (rowsAt u (told bs)) (c .1) in
+    let z : bs ≡ l .blocks = ap (λ (x : ListedUnit). x .blocks) (w .2) in
+    (rw (a .1) (c .1), rw (← z) (leb-true _ _ (b .0)), rw (← z) (leb-true _ _ (c .0)))
 
-canvas-complete : (u : List ℕ) (n m k : ℕ) (l : ListedUnit) → unit-of.unitAt u ≡ ok l → width (told (l .blocks)) * height (told (l .blocks)) ≤ n → length (bandWords (told (l .blocks) .bands)) ≤ m
-    → 4 * (width (told (l .blocks)) * height (told (l .blocks))) ≤ k → canvasIn u n m k ≡ ok l
+canvas-complete : (u : List ℕ) (n k : ℕ) (l : ListedUnit) → unit-of.unitAt u ≡ ok l → width (told (l .blocks)) * height (told (l .blocks)) ≤ n
+    → 4 * (width (told (l .blocks)) * height (told (l .blocks))) ≤ k → canvasIn u n k ≡ ok l
 unfolding canvasIn unit-of.unitAt
-canvas-complete u n m k l e h i j =
-    let a = andThen-ok (controlAt u) _ e in
+canvas-complete u n k l e h j =
+    let a = andThen-ok (fewAt u) _ e in
     let bs = a .0 in
     let w = mapRes-ok (listedUnit bs) (rowsAt u (told bs)) (a .2) in
     let z : bs ≡ l .blocks = ap (λ (x : ListedUnit). x .blocks) (w .2) in
     let h′ : width (told bs) * height (told bs) ≤ n = rw z h in
-    let i′ : length (bandWords (told bs .bands)) ≤ m = rw z i in
     let j′ : 4 * (width (told bs) * height (told bs)) ≤ k = rw z j in
-    rw (a .1, le-leb (width (told bs) * height (told bs)) n h′, le-leb (length (bandWords (told bs .bands))) m i′, le-leb (4 * (width (told bs) * height (told bs))) k j′) (a .2)
+    rw (a .1, le-leb (width (told bs) * height (told bs)) n h′, le-leb (4 * (width (told bs) * height (told bs))) k j′) (a .2)
 
 -- what is listed of the text, the cue and the unit's form
 record Founded (text file : List ℕ) (q : Wanted) (n : ℕ) (f : Found) : Type 0 where
@@ -101,15 +94,15 @@ module _ (text file : List ℕ) (q : Wanted) where
   -- what is listed is a reading where its times stay, and there is room for it
   listed-sound : (b : Lent) (x : Reading) → listedIn text file q b ≡ ok x
       → TimeStays (showOf x) × TimeStays (hideOf x) → IsReading text file q x × Room x b
-  unfolding listedIn wordsOf
+  unfolding listedIn
   listed-sound b x e stay =
       let a = andThen-ok (foundFor text file q (length (b .scratch))) _ e in
       let f = a .0 in
-      let w = mapRes-ok (reading q f) (canvasIn (unitOf (f .form)) (length (b .pixels)) (length (b .words)) (length (b .canvas))) (a .2) in
+      let w = mapRes-ok (reading q f) (canvasIn (unitOf (f .form)) (length (b .pixels)) (length (b .canvas))) (a .2) in
       let g = found-sound text file q (length (b .scratch)) f (a .1) in
       let u = unit-sound (wantedId q) file (g .at .position) (length (b .scratch)) (f .form) (g .form-is) in
       let i = form-iff (wantedId q) file (g .at .position) (f .form) .0 (u .0) in
-      let c = canvas-sound (unitOf (f .form)) (length (b .pixels)) (length (b .words)) (length (b .canvas)) (w .0) (w .1) in
+      let c = canvas-sound (unitOf (f .form)) (length (b .pixels)) (length (b .canvas)) (w .0) (w .1) in
       let t = subst (λ (y : Reading). TimeStays (showOf y) × TimeStays (hideOf y)) (sym (w .2)) stay in
       subst (λ (y : Reading). IsReading text file q y × Room y b) (w .2) (
         record {
@@ -124,18 +117,18 @@ module _ (text file : List ℕ) (q : Wanted) where
           show-stays = t .0;
           hide-stays = t .1;
         },
-        record { for-unit = u .1; for-map = c .1; for-bands = c .2; for-canvas = c .3 },
+        record { for-unit = u .1; for-map = c .1; for-canvas = c .2 },
       )
 
   -- and what the grammar lists with room is listed, whatever its times are
   pub listed-complete : (b : Lent) (x : Reading) (c : Cue) → IsText text (x .text) → x .cue ≡ q .cue → q .stream ≤ top-stream
       → cueAt (cuesOf (x .text)) (x .cue) ≡ some c → c .position < length file → IsForm (wantedId q) file (c .position) (x .form)
       → IsUnit (unitOf (x .form)) (x .unit) → Room x b → listedIn text file q b ≡ ok x
-  unfolding listedIn foundFor wordsOf
+  unfolding listedIn foundFor
   listed-complete b x c t e s l p f u r =
       let k : cueAt (cuesOf (x .text)) (q .cue) ≡ some c = ap (cueAt (cuesOf (x .text))) (sym e) ∙ l in
       let m = unit-complete (wantedId q) file (c .position) (length (b .scratch)) (x .form) (form-iff (wantedId q) file (c .position) (x .form) .1 (p, f)) (r .for-unit) in
-      let d = canvas-complete (unitOf (x .form)) (length (b .pixels)) (length (b .words)) (length (b .canvas)) (x .unit) (unit-iff (unitOf (x .form)) (x .unit) .1 u) (r .for-map) (r .for-bands) (r .for-canvas) in
+      let d = canvas-complete (unitOf (x .form)) (length (b .pixels)) (length (b .canvas)) (x .unit) (unit-iff (unitOf (x .form)) (x .unit) .1 u) (r .for-map) (r .for-canvas) in
       rw (text-iff text (x .text) .1 t, le-leb (q .stream) top-stream s, k, m, d) (λ i. ok (record { text = x .text; cue = sym e i; form = x .form; unit = x .unit }))
 
   -- a reading that is found is what is listed, and its times stay
@@ -190,7 +183,7 @@ module _ (text file : List ℕ) (q : Wanted) where
     equal x e =
         let h = sound b x e .0 in
         let a = andThen-ok (foundFor text file q (length (b .scratch))) _ (in-time b x e .0) in
-        let w = mapRes-ok (reading q (a .0)) (canvasIn (unitOf (a .0 .form)) (length (b .pixels)) (length (b .words)) (length (b .canvas))) (a .2) in
+        let w = mapRes-ok (reading q (a .0)) (canvasIn (unitOf (a .0 .form)) (length (b .pixels)) (length (b .canvas))) (a .2) in
         let f : a .0 .form ≡ x .form = ap (λ (y : Reading). y .form) (w .2) in
         record {
           says = shownGiven (shown x);
@@ -213,17 +206,15 @@ module _ (text file : List ℕ) (q : Wanted) where
           clipped = refl;
           in-scratch = d .in-scratch ∙ ap (λ (y : Res Found). sets (b .scratch) 0 (scratchOf y)) (a .1) ∙ ap (λ (y : Form). sets (b .scratch) 0 (formStored y)) f ∙ ap (sets (b .scratch) 0) (form-stored (x .form));
           in-pixels = d .in-pixels ∙ ap (λ (y : Res Reading). sets (b .pixels) 0 (pixelsOf y)) e;
-          in-words = d .in-words ∙ ap (λ (y : Res Reading). sets (b .words) 0 (bandsOf y)) e;
           in-canvas = d .in-canvas ∙ ap (λ (y : Res Reading). sets (b .canvas) 0 (paintedOf y)) e;
           map-long = reading-map text file q x h;
           canvas-long = reading-canvas text file q x h;
         }
 
-    left : (o : Res Reading) → readingIn text file q b ≡ o → (Gives r → ⊥) → (b′ .pixels ≡ b .pixels) × (b′ .words ≡ b .words) × (b′ .canvas ≡ b .canvas)
+    left : (o : Res Reading) → readingIn text file q b ≡ o → (Gives r → ⊥) → (b′ .pixels ≡ b .pixels) × (b′ .canvas ≡ b .canvas)
     left (ok x) e n = absurd (n (gives x e))
     left (refuse m) e n = (
       d .in-pixels ∙ ap (λ (y : Res Reading). sets (b .pixels) 0 (pixelsOf y)) e,
-      d .in-words ∙ ap (λ (y : Res Reading). sets (b .words) 0 (bandsOf y)) e,
       d .in-canvas ∙ ap (λ (y : Res Reading). sets (b .canvas) 0 (paintedOf y)) e,
     )
 

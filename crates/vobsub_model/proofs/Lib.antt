@@ -8,3 +8,4 @@ pub mod Cards
 pub mod Streams
 pub mod NoBytes
 pub mod Late
+pub mod Many

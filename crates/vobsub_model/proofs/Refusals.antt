@@ -5,10 +5,9 @@ use mathlib.Core.Option.{none}
 use mathlib.Core.List.{List, [], _∷_, _++_}
 use lib.Dec.{leb}
 use lib.IntN.{pos}
-use lib.ListN.{length}
-use Rattle.outcome.specs.Outcome.{InTable, Numbered, need, bad-stream, no-cue, short-pixels, short-words, short-canvas, no-top-field, field-ran-out, long-instant, ok, refuse, refusalOf, bad-position, short-scratch, cut-parameters, small-size, no-band-list, unknown-command, no-area}
+use lib.ListN.{length, replicate}
+use Rattle.outcome.specs.Outcome.{InTable, Numbered, need, bad-stream, no-cue, many-bands, short-pixels, short-canvas, no-top-field, field-ran-out, long-instant, ok, refuse, refusalOf, bad-position, short-scratch, cut-parameters, small-size, no-band-list, unknown-command, no-area}
 use Rattle.outcome.proofs.Numbers.{in-table, check-numbered, need-numbered, andThen-numbered, mapRes-numbered}
-use Rattle.grammar.specs.Bands.{bandWords, entryWords}
 use Rattle.grammar.specs.Record.{told, width, height, commandsOf, commandsIn, firstDelay, lastDelay, lastNumbers, stands, allBands}
 use Rattle.grammar.specs.IndexCues.{cuesOfLines, cuesOf, cueAt}
 use Rattle.grammar.specs.Packets.{unitOf, joined, top-stream}
@@ -18,7 +17,8 @@ use Rattle.idx_model.proofs.Refusals.{text-numbered}
 use Rattle.ps_model.specs.Unit.{unitAt}
 use Rattle.ps_model.proofs.Refusals as ps
 use Rattle.control_model.specs.Chain.{controlAt, plainAt, changeAt, orderAt, commandAt, commandsAt, blockAt, blocksAt, headFits, chainAt}
-use Rattle.control_model.proofs.Refusals.{control-numbered}
+use Rattle.control_model.specs.Few.{fewAt}
+use Rattle.control_model.proofs.Refusals.{few-numbered}
 use Rattle.clock_model.specs.Clock.{timesStay, toldStay}
 use Rattle.rle_model.specs.Codes.{codeFrom, codeAt, rowAt, fieldAt}
 use Rattle.rle_model.specs.Field.{rowsFrom}
@@ -48,20 +48,19 @@ found-numbered text file q n =
     (andThen-numbered InTable (need no-cue (cueAt (cuesOf index) (q .cue))) _ (need-numbered InTable no-cue (cueAt (cuesOf index) (q .cue)) (in-table no-cue refl))
     (λ c. mapRes-numbered InTable (found index) (unitAt (wantedId q) file (c .position) n) (ps.unit-numbered (wantedId q) file (c .position) n))))
 
-canvas-numbered : (u : List ℕ) (n m k : ℕ) → Numbered (canvasIn u n m k)
+canvas-numbered : (u : List ℕ) (n k : ℕ) → Numbered (canvasIn u n k)
 unfolding canvasIn
-canvas-numbered u n m k =
-    andThen-numbered InTable (controlAt u) _ (control-numbered u)
+canvas-numbered u n k =
+    andThen-numbered InTable (fewAt u) _ (few-numbered u)
     (λ bs. check-numbered InTable (leb (width (told bs) * height (told bs)) n) short-pixels _ (in-table short-pixels refl)
-    (check-numbered InTable (leb (length (bandWords (told bs .bands))) m) short-words _ (in-table short-words refl)
     (check-numbered InTable (leb (4 * (width (told bs) * height (told bs))) k) short-canvas _ (in-table short-canvas refl)
-    (mapRes-numbered InTable (listedUnit bs) (rowsAt u (told bs)) (rows-numbered u (told bs))))))
+    (mapRes-numbered InTable (listedUnit bs) (rowsAt u (told bs)) (rows-numbered u (told bs)))))
 
 listed-numbered : (text file : List ℕ) (q : Wanted) (b : Lent) → Numbered (listedIn text file q b)
 unfolding listedIn
 listed-numbered text file q b =
     andThen-numbered InTable (foundFor text file q (length (b .scratch))) _ (found-numbered text file q (length (b .scratch)))
-    (λ f. mapRes-numbered InTable (reading q f) (canvasIn (unitOf (f .form)) (length (b .pixels)) (length (b .words)) (length (b .canvas))) (canvas-numbered (unitOf (f .form)) (length (b .pixels)) (length (b .words)) (length (b .canvas))))
+    (λ f. mapRes-numbered InTable (reading q f) (canvasIn (unitOf (f .form)) (length (b .pixels)) (length (b .canvas))) (canvas-numbered (unitOf (f .form)) (length (b .pixels)) (length (b .canvas))))
 
 pub reading-numbered : (text file : List ℕ) (q : Wanted) (b : Lent) → Numbered (readingIn text file q b)
 unfolding readingIn
@@ -97,22 +96,32 @@ orders = (refl, refl, refl, refl, refl, refl, refl, refl, refl)
 abbrev unit : List ℕ → List ℕ
 unit cs = 0x00 ∷ (9 + length cs) ∷ 0x00 ∷ 0x05 ∷ 0x70 ∷ 0x00 ∷ 0x00 ∷ 0x00 ∷ 0x05 ∷ cs
 
--- and from the unit on: a unit and lengths of map, words and canvas
+-- a colour change of 33 bands without entries, in front of these bytes
+abbrev bands-33 : List ℕ → List ℕ
+bands-33 cs = 0x07 ∷ 0x00 ∷ 0x86 ∷ replicate 132 0x00 ++ cs
+
+-- and from the unit on: a unit and lengths of map and canvas
 pub canvas-orders :
     -- 21, and 24
-    (canvasIn (unit (0x05 ∷ 0x00 ∷ 0x10 ∷ 0x00 ∷ 0x00 ∷ 0x00 ∷ 0x00 ∷ 0xFF ∷ [])) 1 0 0 ≡ refuse no-area)
+    (canvasIn (unit (0x05 ∷ 0x00 ∷ 0x10 ∷ 0x00 ∷ 0x00 ∷ 0x00 ∷ 0x00 ∷ 0xFF ∷ [])) 1 0 ≡ refuse no-area)
+    -- 21, and 34
+    × (canvasIn (unit (bands-33 (0x05 ∷ 0x00 ∷ 0x10 ∷ 0x00 ∷ 0x00 ∷ 0x00 ∷ 0x00 ∷ 0xFF ∷ []))) 1 4 ≡ refuse no-area)
+    -- 34, and 22
+    × (canvasIn (unit (bands-33 (0xFF ∷ []))) 0 4 ≡ refuse many-bands)
+    -- 34, and 24
+    × (canvasIn (unit (bands-33 (0xFF ∷ []))) 1 3 ≡ refuse many-bands)
+    -- 34, and 25
+    × (canvasIn (unit (bands-33 (0x06 ∷ 0xFF ∷ 0xFF ∷ 0x00 ∷ 0x00 ∷ 0xFF ∷ []))) 1 4 ≡ refuse many-bands)
+    -- 34, and 26
+    × (canvasIn (unit (bands-33 (0x06 ∷ 0x00 ∷ 0x05 ∷ 0x00 ∷ 0x00 ∷ 0xFF ∷ []))) 1 4 ≡ refuse many-bands)
     -- 22, and 24
-    × (canvasIn (unit (0xFF ∷ [])) 0 0 0 ≡ refuse short-pixels)
-    -- 22, and 23
-    × (canvasIn (unit (0x07 ∷ 0x00 ∷ 0x06 ∷ 0x00 ∷ 0x03 ∷ 0x00 ∷ 0x04 ∷ 0xFF ∷ [])) 0 2 0 ≡ refuse short-pixels)
-    -- 23, and 24
-    × (canvasIn (unit (0x07 ∷ 0x00 ∷ 0x06 ∷ 0x00 ∷ 0x03 ∷ 0x00 ∷ 0x04 ∷ 0xFF ∷ [])) 1 2 0 ≡ refuse short-words)
+    × (canvasIn (unit (0xFF ∷ [])) 0 0 ≡ refuse short-pixels)
     -- 24, and 25
-    × (canvasIn (unit (0x06 ∷ 0xFF ∷ 0xFF ∷ 0x00 ∷ 0x00 ∷ 0xFF ∷ [])) 1 0 3 ≡ refuse short-canvas)
+    × (canvasIn (unit (0x06 ∷ 0xFF ∷ 0xFF ∷ 0x00 ∷ 0x00 ∷ 0xFF ∷ [])) 1 3 ≡ refuse short-canvas)
     -- 24, and 26
-    × (canvasIn (unit (0x06 ∷ 0x00 ∷ 0x05 ∷ 0x00 ∷ 0x00 ∷ 0xFF ∷ [])) 1 0 3 ≡ refuse short-canvas)
-unfolding canvasIn rowsAt listFrom listFuel word nibbles nibble entryWords bandWords bandsAt bandsOf entriesOf header entryOf held plainAt changeAt orderAt commandAt commandsAt blockAt blocksAt headFits chainAt controlAt told commandsOf commandsIn firstDelay lastDelay lastNumbers stands allBands
-canvas-orders = (refl, refl, refl, refl, refl, refl)
+    × (canvasIn (unit (0x06 ∷ 0x00 ∷ 0x05 ∷ 0x00 ∷ 0x00 ∷ 0xFF ∷ [])) 1 3 ≡ refuse short-canvas)
+unfolding canvasIn fewAt rowsAt listFrom listFuel word nibbles nibble bandsAt bandsOf entriesOf header entryOf held plainAt changeAt orderAt commandAt commandsAt blockAt blocksAt headFits chainAt controlAt told commandsOf commandsIn firstDelay lastDelay lastNumbers stands allBands
+canvas-orders = (refl, refl, refl, refl, refl, refl, refl, refl, refl)
 
 -- a unit that starts, a tick after its cue's start, with one byte of field and these bytes before the start
 abbrev late : List ℕ → List ℕ
@@ -120,27 +129,28 @@ late cs = 0x00 ∷ (11 + length cs) ∷ 0x00 ∷ 0x05 ∷ 0x70 ∷ 0x00 ∷ 0x01
 
 -- and before 33: a cue at the last microsecond, so that its show time leaves, a unit and lengths; what is refused
 -- before the unit is in `Late.earlier`
-abbrev last : List ℕ → ℕ → ℕ → ℕ → ℕ
-last cs n m k = refusalOf (timedIn (pos 9223372036854775807) (late cs) n m k)
+abbrev last : List ℕ → ℕ → ℕ → ℕ
+last cs n k = refusalOf (timedIn (pos 9223372036854775807) (late cs) n k)
 
 pub late-orders :
     -- 33 alone
-    (last [] 1 0 4 ≡ long-instant)
+    (last [] 1 4 ≡ long-instant)
     -- 17, 18 and 19, after a start
-    × (last (0x01 ∷ 0x05 ∷ []) 1 0 4 ≡ cut-parameters)
-    × (last (0x01 ∷ 0x07 ∷ 0x00 ∷ 0x01 ∷ []) 1 0 4 ≡ small-size)
-    × (last (0x01 ∷ 0x07 ∷ 0x00 ∷ 0x03 ∷ 0x00 ∷ []) 1 0 4 ≡ no-band-list)
+    × (last (0x01 ∷ 0x05 ∷ []) 1 4 ≡ cut-parameters)
+    × (last (0x01 ∷ 0x07 ∷ 0x00 ∷ 0x01 ∷ []) 1 4 ≡ small-size)
+    × (last (0x01 ∷ 0x07 ∷ 0x00 ∷ 0x03 ∷ 0x00 ∷ []) 1 4 ≡ no-band-list)
     -- 20
-    × (last (0x08 ∷ []) 1 0 4 ≡ unknown-command)
+    × (last (0x08 ∷ []) 1 4 ≡ unknown-command)
     -- 21
-    × (last (0x05 ∷ 0x00 ∷ 0x10 ∷ 0x00 ∷ 0x00 ∷ 0x00 ∷ 0x00 ∷ []) 1 0 4 ≡ no-area)
-    -- 22, 23 and 24
-    × (last [] 0 0 4 ≡ short-pixels)
-    × (last (0x07 ∷ 0x00 ∷ 0x06 ∷ 0x00 ∷ 0x03 ∷ 0x00 ∷ 0x04 ∷ []) 1 2 4 ≡ short-words)
-    × (last [] 1 0 3 ≡ short-canvas)
+    × (last (0x05 ∷ 0x00 ∷ 0x10 ∷ 0x00 ∷ 0x00 ∷ 0x00 ∷ 0x00 ∷ []) 1 4 ≡ no-area)
+    -- 34
+    × (last (bands-33 []) 1 4 ≡ many-bands)
+    -- 22 and 24
+    × (last [] 0 4 ≡ short-pixels)
+    × (last [] 1 3 ≡ short-canvas)
     -- 25
-    × (last (0x06 ∷ 0xFF ∷ 0xFF ∷ 0x00 ∷ 0x00 ∷ []) 1 0 4 ≡ no-top-field)
+    × (last (0x06 ∷ 0xFF ∷ 0xFF ∷ 0x00 ∷ 0x00 ∷ []) 1 4 ≡ no-top-field)
     -- 26
-    × (last (0x06 ∷ 0x00 ∷ 0x05 ∷ 0x00 ∷ 0x00 ∷ []) 1 0 4 ≡ field-ran-out)
-unfolding timedIn timesStay canvasIn rowsAt fieldsAt lowerAt fieldAt rowAt codeAt codeFrom rowsFrom weave paints afterCodes align topEnd listFrom listFuel word nibbles nibble entryWords bandWords bandsAt bandsOf entriesOf header entryOf held plainAt changeAt orderAt commandAt commandsAt blockAt blocksAt headFits chainAt controlAt told commandsOf commandsIn firstDelay lastDelay lastNumbers stands allBands
+    × (last (0x06 ∷ 0x00 ∷ 0x05 ∷ 0x00 ∷ 0x00 ∷ []) 1 4 ≡ field-ran-out)
+unfolding timedIn timesStay canvasIn fewAt rowsAt fieldsAt lowerAt fieldAt rowAt codeAt codeFrom rowsFrom weave paints afterCodes align topEnd listFrom listFuel word nibbles nibble bandsAt bandsOf entriesOf header entryOf held plainAt changeAt orderAt commandAt commandsAt blockAt blocksAt headFits chainAt controlAt told commandsOf commandsIn firstDelay lastDelay lastNumbers stands allBands
 late-orders = (refl, refl, refl, refl, refl, refl, refl, refl, refl, refl, refl)

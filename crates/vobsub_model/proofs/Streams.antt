@@ -19,7 +19,7 @@ use Rattle.ps_model.specs.Unit.{unitAt, withScratch}
 use Rattle.ps_model.proofs.Streams.{form-same}
 use Rattle.clock_model.specs.Clock.{toldStay, inTime}
 use Rattle.vobsub_model.specs.Call.{Lent, Found, found, foundFor, canvasIn, reading, listedIn, readingIn}
-use Rattle.vobsub_model.specs.Answers.{canvasAnswer, scratchOf, pixelsOf, bandsOf, paintedOf, CuePainted}
+use Rattle.vobsub_model.specs.Answers.{canvasAnswer, scratchOf, pixelsOf, paintedOf, CuePainted}
 use Rattle.vobsub_model.specs.Claim.{Undisturbed}
 use Rattle.vobsub_model.specs.declared.CanvasAnswer.{CanvasAnswer}
 
@@ -39,7 +39,7 @@ module _ (text file other : List ℕ) (q : Wanted) (index : ListedText) (c : Cue
       ap
       (λ (x : Res Found).
       inTime (λ y. toldStay (readingStart y) (toldBy y))
-      (andThen x (λ f. mapRes (reading q f) (canvasIn (unitOf (f .form)) (length (b .pixels)) (length (b .words)) (length (b .canvas))))))
+      (andThen x (λ f. mapRes (reading q f) (canvasIn (unitOf (f .form)) (length (b .pixels)) (length (b .canvas))))))
       (found-same (length (b .scratch)))
 
 pub undisturbed : (text file : List ℕ) (q : Wanted) (b : Lent) (r : CanvasAnswer) (b′ : Lent)
@@ -52,6 +52,5 @@ undisturbed text file q b r b′ x other index c ps l e w a t b″ y =
       answer = x .answer ∙ ap canvasAnswer g ∙ sym (y .answer);
       scratch = x .in-scratch ∙ ap (λ (z : Res Found). sets (b .scratch) 0 (scratchOf z)) f ∙ sym (y .in-scratch);
       pixels = x .in-pixels ∙ ap (λ (z : Res Reading). sets (b .pixels) 0 (pixelsOf z)) g ∙ sym (y .in-pixels);
-      words = x .in-words ∙ ap (λ (z : Res Reading). sets (b .words) 0 (bandsOf z)) g ∙ sym (y .in-words);
       canvas = x .in-canvas ∙ ap (λ (z : Res Reading). sets (b .canvas) 0 (paintedOf z)) g ∙ sym (y .in-canvas);
     }

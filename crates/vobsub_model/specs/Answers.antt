@@ -13,7 +13,7 @@ use Rattle.grammar.specs.Packets.{top-stream}
 use Rattle.grammar.specs.Record.{Told, told, given}
 use Rattle.grammar.specs.Times.{showTime, hideTime}
 use Rattle.grammar.specs.Picture.{ListedUnit}
-use Rattle.grammar.specs.Reading.{Wanted, Reading, shown, mapOf, wordsOf, unitCanvas, canvasOf}
+use Rattle.grammar.specs.Reading.{Wanted, Reading, shown, mapOf, unitCanvas, canvasOf}
 use Rattle.grammar.specs.Reading as grammar-reading
 use Rattle.clock_model.specs.Answers.{ticks, micros, timeOr0, timesOf}
 use Rattle.clock_model.specs.declared.Times.{Times}
@@ -23,7 +23,7 @@ use Rattle.idx_model.specs.Answers.{orZero}
 use Rattle.idx_model.specs.declared.CueAnswer.{CueAnswer}
 use Rattle.ps_model.specs.Answers.{formStored}
 use Rattle.spu_model.specs.Unit.{countsOf}
-use Rattle.spu_model.specs.Answers.{unitMap, unitBands}
+use Rattle.spu_model.specs.Answers.{unitMap}
 use Rattle.vobsub_model.specs.Call.{Lent, Found, foundFor, timedIn, readingIn}
 use Rattle.vobsub_model.specs.declared.Shown.{Shown}
 use Rattle.vobsub_model.specs.declared.CanvasAnswer.{CanvasAnswer}
@@ -75,11 +75,10 @@ lateRefusal (ok rs) = long-instant
 lateRefusal (refuse n) = n
 
 -- what painting the unit u of the cue c leaves: on a refusal nothing is stored
-pub record UnitPainted (u : List ℕ) (c : CueAnswer) (px ws cv : List ℕ) (r : CanvasAnswer) (px′ ws′ cv′ : List ℕ) : Type 0 where
-  pub answer : r ≡ paintsOf c (timedIn (c .start .0) u (length px) (length ws) (length cv))
-  pub pixels : px′ ≡ sets px 0 (unitMap (timedIn (c .start .0) u (length px) (length ws) (length cv)))
-  pub words : ws′ ≡ sets ws 0 (unitBands (timedIn (c .start .0) u (length px) (length ws) (length cv)))
-  pub canvas : cv′ ≡ sets cv 0 (canvasStored (c .palette) (timedIn (c .start .0) u (length px) (length ws) (length cv)))
+pub record UnitPainted (u : List ℕ) (c : CueAnswer) (px cv : List ℕ) (r : CanvasAnswer) (px′ cv′ : List ℕ) : Type 0 where
+  pub answer : r ≡ paintsOf c (timedIn (c .start .0) u (length px) (length cv))
+  pub pixels : px′ ≡ sets px 0 (unitMap (timedIn (c .start .0) u (length px) (length cv)))
+  pub canvas : cv′ ≡ sets cv 0 (canvasStored (c .palette) (timedIn (c .start .0) u (length px) (length cv)))
 
 -- ---- The whole call
 
@@ -123,18 +122,13 @@ abbrev pub pixelsOf : Res Reading → List ℕ
 pixelsOf (ok r) = mapOf r
 pixelsOf (refuse n) = []
 
-abbrev pub bandsOf : Res Reading → List ℕ
-bandsOf (ok r) = wordsOf r
-bandsOf (refuse n) = []
-
 abbrev pub paintedOf : Res Reading → List ℕ
 paintedOf (ok r) = canvasOf r
 paintedOf (refuse n) = []
 
--- the answer, and what the four buffers hold: on a refusal as found, but for the front of scratch after a unit was joined there
+-- the answer, and what the three buffers hold: on a refusal as found, but for the front of scratch after a unit was joined there
 pub record CuePainted (text file : List ℕ) (q : Wanted) (b : Lent) (r : CanvasAnswer) (b′ : Lent) : Type 0 where
   pub answer : r ≡ canvasAnswer (readingIn text file q b)
   pub in-scratch : b′ .scratch ≡ sets (b .scratch) 0 (scratchOf (foundFor text file q (length (b .scratch))))
   pub in-pixels : b′ .pixels ≡ sets (b .pixels) 0 (pixelsOf (readingIn text file q b))
-  pub in-words : b′ .words ≡ sets (b .words) 0 (bandsOf (readingIn text file q b))
   pub in-canvas : b′ .canvas ≡ sets (b .canvas) 0 (paintedOf (readingIn text file q b))

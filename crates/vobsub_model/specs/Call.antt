@@ -5,29 +5,27 @@ use mathlib.Core.List.{List}
 use lib.Dec.{leb}
 use lib.IntN.{ℤ}
 use lib.ListN.{length}
-use Rattle.outcome.specs.Outcome.{Res, check, need, andThen, mapRes, bad-stream, no-cue, short-pixels, short-words, short-canvas}
+use Rattle.outcome.specs.Outcome.{Res, check, need, andThen, mapRes, bad-stream, no-cue, short-pixels, short-canvas}
 use Rattle.grammar.specs.Index.{ListedText}
 use Rattle.grammar.specs.IndexCues.{cuesOf, cueAt}
 use Rattle.grammar.specs.Packets.{Form, unitOf, top-stream}
-use Rattle.grammar.specs.Bands.{bandWords}
 use Rattle.grammar.specs.Record.{told, width, height}
 use Rattle.grammar.specs.Picture.{ListedUnit}
 use Rattle.grammar.specs.Reading.{Wanted, wantedId, Reading, toldBy, readingStart}
 use Rattle.clock_model.specs.Clock.{toldStay, inTime, unitInTime}
 use Rattle.idx_model.specs.Text.{idxOf}
 use Rattle.ps_model.specs.Unit.{unitAt}
-use Rattle.control_model.specs.Chain.{controlAt}
+use Rattle.control_model.specs.Few.{fewAt}
 use Rattle.spu_model.specs.Unit.{rowsAt, listedUnit}
 
 -- what the lent buffers hold
 pub record Lent : Type 0 where
   pub scratch : List ℕ
   pub pixels : List ℕ
-  pub words : List ℕ
   pub canvas : List ℕ
 
-abbrev pub lent : List ℕ → List ℕ → List ℕ → List ℕ → Lent
-lent s p w c = record { scratch = s; pixels = p; words = w; canvas = c }
+abbrev pub lent : List ℕ → List ℕ → List ℕ → Lent
+lent s p c = record { scratch = s; pixels = p; canvas = c }
 
 -- what is listed of the text, and how the unit of the cue stands in the file
 pub record Found : Type 0 where
@@ -45,18 +43,17 @@ foundFor text file q n =
     (andThen (need no-cue (cueAt (cuesOf t) (q .cue)))
     (λ c. mapRes (found t) (unitAt (wantedId q) file (c .position) n))))
 
--- 15 to 21, then 22 to 24 with so many pixels, words and canvas bytes, then 25 and 26
-unfoldable pub canvasIn : List ℕ → ℕ → ℕ → ℕ → Res ListedUnit
-canvasIn u n m k =
-    andThen (controlAt u)
+-- 15 to 21 and 34, then 22 and 24 with so many pixels and canvas bytes, then 25 and 26
+unfoldable pub canvasIn : List ℕ → ℕ → ℕ → Res ListedUnit
+canvasIn u n k =
+    andThen (fewAt u)
     (λ bs.
     check (leb (width (told bs) * height (told bs)) n) short-pixels
-    (check (leb (length (bandWords (told bs .bands))) m) short-words
-    (check (leb (4 * (width (told bs) * height (told bs))) k) short-canvas (mapRes (listedUnit bs) (rowsAt u (told bs))))))
+    (check (leb (4 * (width (told bs) * height (told bs))) k) short-canvas (mapRes (listedUnit bs) (rowsAt u (told bs)))))
 
 -- and then 33, for a cue with this start
-unfoldable pub timedIn : ℤ → List ℕ → ℕ → ℕ → ℕ → Res ListedUnit
-timedIn start u n m k = unitInTime start (canvasIn u n m k)
+unfoldable pub timedIn : ℤ → List ℕ → ℕ → ℕ → Res ListedUnit
+timedIn start u n k = unitInTime start (canvasIn u n k)
 
 abbrev pub reading : Wanted → Found → ListedUnit → Reading
 reading q f l = record { text = f .text; cue = q .cue; form = f .form; unit = l }
@@ -65,7 +62,7 @@ reading q f l = record { text = f .text; cue = q .cue; form = f .form; unit = l 
 unfoldable pub listedIn : List ℕ → List ℕ → Wanted → Lent → Res Reading
 listedIn text file q b =
     andThen (foundFor text file q (length (b .scratch)))
-    (λ f. mapRes (reading q f) (canvasIn (unitOf (f .form)) (length (b .pixels)) (length (b .words)) (length (b .canvas))))
+    (λ f. mapRes (reading q f) (canvasIn (unitOf (f .form)) (length (b .pixels)) (length (b .canvas))))
 
 unfoldable pub readingIn : List ℕ → List ℕ → Wanted → Lent → Res Reading
 readingIn text file q b = inTime (λ x. toldStay (readingStart x) (toldBy x)) (listedIn text file q b)

@@ -11,7 +11,7 @@ use Rattle.grammar.specs.Index.{ListedText, IsText}
 use Rattle.grammar.specs.IndexCues.{Cue, cuesOf, cueAt}
 use Rattle.grammar.specs.Packets.{Packet, unitOf, scratchFor}
 use Rattle.grammar.specs.Streams.{Walk, Alike}
-use Rattle.grammar.specs.Reading.{Wanted, wantedId, Reading, IsReading, shown, mapOf, wordsOf, canvasOf, LongEnough}
+use Rattle.grammar.specs.Reading.{Wanted, wantedId, Reading, IsReading, shown, mapOf, canvasOf, LongEnough}
 use Rattle.grammar.specs.Record.{given}
 use Rattle.clock_model.specs.Answers.{timeOr0}
 use Rattle.idx_model.specs.Answers.{orZero}
@@ -28,7 +28,7 @@ Gives (canvas-answer.Refused n) = ⊥
 
 -- the lent buffers are long enough for a reading
 abbrev pub Room : Reading → Lent → Type 0
-Room x b = LongEnough x (length (b .scratch)) (length (b .pixels)) (length (b .words)) (length (b .canvas))
+Room x b = LongEnough x (length (b .scratch)) (length (b .pixels)) (length (b .canvas))
 
 -- answer and buffers are what the reading gives, a byte of the map and four of the canvas for each pixel; past that each buffer is as found
 pub record Equal (x : Reading) (b : Lent) (r : CanvasAnswer) (b′ : Lent) : Type 0 where
@@ -52,7 +52,6 @@ pub record Equal (x : Reading) (b : Lent) (r : CanvasAnswer) (b′ : Lent) : Typ
   pub clipped : says .clipped ≡ shown x .clipped
   pub in-scratch : b′ .scratch ≡ sets (b .scratch) 0 (take (scratchFor (x .form)) (unitOf (x .form)))
   pub in-pixels : b′ .pixels ≡ sets (b .pixels) 0 (mapOf x)
-  pub in-words : b′ .words ≡ sets (b .words) 0 (wordsOf x)
   pub in-canvas : b′ .canvas ≡ sets (b .canvas) 0 (canvasOf x)
   pub map-long : length (mapOf x) ≡ shown x .width * shown x .height
   pub canvas-long : length (canvasOf x) ≡ 4 * (shown x .width * shown x .height)
@@ -62,18 +61,17 @@ pub record Exactly (text file : List ℕ) (q : Wanted) (b : Lent) (r : CanvasAns
   pub exactly-when : Gives r ↔ ((x : Reading) × IsReading text file q x × Room x b)
   pub no-two : (x y : Reading) → IsReading text file q x → IsReading text file q y → x ≡ y
   pub same : (x : Reading) → IsReading text file q x → Gives r → Equal x b r b′
-  pub as-found : (Gives r → ⊥) → (b′ .pixels ≡ b .pixels) × (b′ .words ≡ b .words) × (b′ .canvas ≡ b .canvas)
+  pub as-found : (Gives r → ⊥) → (b′ .pixels ≡ b .pixels) × (b′ .canvas ≡ b .canvas)
 
 -- ---- Other streams (FORMAT 2.11)
 
--- two files give a cue the same readings, and two calls leave the same: the answer with every number, and all four
+-- two files give a cue the same readings, and two calls leave the same: the answer with every number, and all three
 -- buffers
 pub record SameResults (text file other : List ℕ) (q : Wanted) (r t : CanvasAnswer) (b c : Lent) : Type 0 where
   pub readings : (x : Reading) → IsReading text file q x ↔ IsReading text other q x
   pub answer : r ≡ t
   pub scratch : b .scratch ≡ c .scratch
   pub pixels : b .pixels ≡ c .pixels
-  pub words : b .words ≡ c .words
   pub canvas : b .canvas ≡ c .canvas
 
 -- a file that differs from this one in packets of other streams alone, among those walked from the cue's position,

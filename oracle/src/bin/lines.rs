@@ -1,8 +1,8 @@
 // What the original says of a title, as the lines of the list program, into FILE: `lines DIR FILE`. A refused index has no number, as the
 // original gives none. The list program names stream 0: where others are on a cue's walk, the original is asked about a copy with their ids
-// set to 00. About an index of no bytes the original is not asked: the cue of empty.rs is listed. A cue that the original shows and that has a
-// time outside signed 64 bits, by times.rs, is listed as refused with 33. Printed are 1 for such an index, or 0, the number of such cues, and
-// the rule that applied.
+// set to 00. About an index of no bytes the original is not asked: the cue of empty.rs is listed. A cue with too many bands, by limit.rs, is
+// listed as refused with 34, and one that the original shows and that has a time outside signed 64 bits, by times.rs, as refused with 33.
+// Printed are 1 for such an index, or 0, the number of cues with 33 and with 34, and the rules that applied.
 use oracle::side::{Delays, Spot, number_of};
 use oracle::walk::walk;
 use std::fs;
@@ -18,10 +18,10 @@ fn main() -> std::io::Result<()> {
     let mut out = fs::File::create(path)?;
     let rule = side.empty.rule(text.as_bytes());
     let Ok(index) = rule.map_or_else(|| (side.index)(&text), |_| Ok((side.empty.index)())) else {
-        println!("0 0");
+        println!("0 0 0");
         return writeln!(out, "index refused");
     };
-    let mut long = Vec::new();
+    let (mut long, mut many) = (Vec::new(), Vec::new());
     writeln!(out, "cues {}", index.cues.len())?;
     for (n, &(start, position)) in index.cues.iter().enumerate() {
         let duration = (side.duration)(start, index.cues.get(n + 1).map(|c| c.0)).map_or("-".to_string(), |d| d.to_string());
@@ -33,7 +33,10 @@ fn main() -> std::io::Result<()> {
         };
         let shown = unit.and_then(|unit| {
             let counts = oracle::counted(|| (side.counting.unit)(&unit));
-            let decoded = (side.unit)(&unit).map_err(|words| number_of(&words))?;
+            let decoded = (side.unit)(&unit).map_err(|words| number_of(&words));
+            let crowded = side.limit.rule(counts, decoded.as_ref().err().copied().unwrap_or(0));
+            many.extend(crowded);
+            let decoded = crowded.map_or(decoded, |_| Err(34))?;
             let leaves = side.times.rule(Delays::of(start, &decoded, counts));
             long.extend(leaves);
             leaves.map_or(Ok((decoded, counts.codes)), |_| Err(33))
@@ -43,7 +46,7 @@ fn main() -> std::io::Result<()> {
             Err(number) => writeln!(out, "{n} refused {number}")?,
         }
     }
-    // the cue of an index of no bytes has start 0, so that no title has both
-    println!("{} {} {}", rule.is_some() as u8, long.len(), rule.or(long.pop()).unwrap_or(""));
+    let rules: Vec<&str> = [rule, long.first().copied(), many.first().copied()].into_iter().flatten().collect();
+    println!("{} {} {} {}", rule.is_some() as u8, long.len(), many.len(), rules.join("; "));
     Ok(())
 }

@@ -3,12 +3,14 @@
 // The list: 128 bytes of text that say how it was made; then for each class in the order of `classes::all` a word with the number of its rows,
 // and its rows. A row is 16 bytes and the request's bytes: which function is asked (1 pes, 2 packets, 3 bands, 4 fields, 5 units, 6 written,
 // 7 idx, 8 cue, 9 canvas), the refusal, a word with the number of bytes, four words with the request's numbers (of packets the position, the stream
-// and the scratch; a canvas has its stream in its bytes), and four bytes with the sum over the answer.
+// and the scratch; of units the length of the map; of canvases the lengths of scratch, map and canvas, and the stream is in the bytes; of bands
+// none), and four bytes with the sum over the answer.
 //
 // Only requests on which both sides agree (or that a rule covers) go into the list, so many for each answer; no two of 7, 8 or 9 are the same.
 use oracle::CLIPPED;
 use oracle::class::{BYTE, Class, NUMBER, Request, START, Sum, WORD, World};
 use oracle::classes::{self, canvas};
+use oracle::limit::{ENTRIES, NO_ENTRY};
 use oracle::port;
 use oracle::random::Random;
 use oracle::side::Side;
@@ -21,11 +23,15 @@ const LONGEST: usize = 240;
 // of titles fewer and longer ones
 const EACH_TITLE: usize = 24;
 const LONGEST_TITLE: usize = 640;
+// of what has 31 to 34 bands fewer still, and as long as crates/replay has room for
+const EACH_NEAR: usize = 12;
+const LONGEST_NEAR: usize = 4096;
 
-// The numbers of a request as the list has them: for units and titles, how many bytes and words are lent.
+// The numbers of a request as the list has them: for units and titles, how many bytes are lent.
 fn numbers(class: &Class, side: &Side, q: &Request) -> [usize; 4] {
     if kind(class) == 9 {
-        return canvas::rooms(side, q);
+        let [scratch, map, canvas] = canvas::rooms(side, q);
+        return [scratch, map, canvas, 0];
     }
     if kind(class) == 6 {
         return [q.n[0], q.n[1], q.n[2].min(200), 0];
@@ -34,8 +40,8 @@ fn numbers(class: &Class, side: &Side, q: &Request) -> [usize; 4] {
         return q.n;
     }
     match (side.unit)(&q.bytes) {
-        Ok(d) => [lent(q.n[0], d.map.len()), lent(q.n[1], d.words.len()), 0, 0],
-        Err(_) => [if q.n[0] > 1 { 0 } else { 2048 }, 256, 0, 0],
+        Ok(d) => [lent(q.n[0], d.map.len()), 0, 0, 0],
+        Err(_) => [if q.n[0] > 1 { 0 } else { 2048 }, 0, 0, 0],
     }
 }
 
@@ -81,8 +87,8 @@ fn answer(kind: u8, bytes: &[u8], n: [usize; 4]) -> (u8, u64) {
             refusal
         }
         3 => {
-            let (mut words, mut count) = (vec![WORD; n[1]], NUMBER);
-            let refusal = port::bands(bytes, &mut words, n[0], &mut count);
+            let (mut words, mut count) = ([WORD; port::BANDS], NUMBER);
+            let refusal = port::bands(bytes, &mut words, &mut count);
             sum.add(count);
             sum.all(&words);
             refusal
@@ -124,10 +130,10 @@ fn answer(kind: u8, bytes: &[u8], n: [usize; 4]) -> (u8, u64) {
             refusal
         }
         9 => {
-            let (mut scratch, mut map, mut words, mut painted) = (vec![BYTE; n[0]], vec![BYTE; n[1]], vec![WORD; n[2]], vec![BYTE; n[3]]);
+            let (mut scratch, mut map, mut painted) = (vec![BYTE; n[0]], vec![BYTE; n[1]], vec![BYTE; n[2]]);
             let (mut times, mut numbers) = ([START; port::TIMES], [NUMBER as u64; port::SHOWN_NUMBERS]);
             let (text, file, cue, stream) = canvas::parts(bytes);
-            let lent = port::Lent { scratch: &mut scratch, pixels: &mut map, words: &mut words, canvas: &mut painted };
+            let lent = port::Lent { scratch: &mut scratch, pixels: &mut map, canvas: &mut painted };
             let refusal = port::decode_cue(text, file, cue, stream, lent, &mut times, &mut numbers);
             for v in times {
                 sum.signed(v);
@@ -135,12 +141,11 @@ fn answer(kind: u8, bytes: &[u8], n: [usize; 4]) -> (u8, u64) {
             sum.all(&numbers);
             sum.all(&scratch);
             sum.all(&map);
-            sum.all(&words);
             sum.all(&painted);
             refusal
         }
         _ => {
-            let (mut map, mut words, mut numbers) = (vec![BYTE; n[0]], vec![WORD; n[1]], [NUMBER; port::NUMBERS]);
+            let (mut map, mut words, mut numbers) = (vec![BYTE; n[0]], [WORD; port::BANDS], [NUMBER; port::NUMBERS]);
             let refusal = port::unit(bytes, &mut map, &mut words, &mut numbers);
             for v in numbers {
                 sum.add(v);
@@ -155,24 +160,23 @@ fn answer(kind: u8, bytes: &[u8], n: [usize; 4]) -> (u8, u64) {
 
 fn rows(class: &Class, world: &World, side: &Side) -> (usize, Vec<u8>) {
     let mut out = Vec::new();
-    let mut met: BTreeMap<(u8, Option<usize>), usize> = BTreeMap::new();
+    let mut met: BTreeMap<(u8, Option<usize>, bool), usize> = BTreeMap::new();
     let mut taken = BTreeSet::new();
-    let (mut count, mut copied, mut clipped, mut empty, mut hidden) = (0, 0, 0, 0, 0);
+    let (mut count, mut copied, mut clipped, mut empty, mut hidden, mut banded) = (0, 0, 0, 0, 0, 0);
     for i in 0..60_000 {
         let q = (class.generate)(world, &mut Random::of(SEED, class.name, i));
         let n = numbers(class, side, &q);
         let room = match kind(class) {
             2 => n[2],
-            3 => n[1],
             4 => n[3],
-            5 => n[0].max(n[1]),
+            5 => n[0],
             _ => 0,
         };
         let title = kind(class) == 9;
-        if title && (n[0] > 1024 || n[1] > 1024 || n[2] > 256 || n[3] > 4096) {
+        if title && (n[0] > LONGEST_NEAR || n[1] > 1024 || n[2] > 4096) {
             continue;
         }
-        if q.bytes.len() > if title { LONGEST_TITLE } else { LONGEST } || room > 1000 && kind(class) != 5 || room > 2048 || n[1] > 1000 && kind(class) == 5 || n.iter().any(|&v| v > 65535) {
+        if q.bytes.len() > LONGEST_NEAR || room > 1000 && kind(class) != 5 || room > 2048 || n.iter().any(|&v| v > 65535) {
             continue;
         }
         let o = (class.compare)(side, &q);
@@ -182,6 +186,10 @@ fn rows(class: &Class, world: &World, side: &Side) -> (usize, Vec<u8>) {
         if refusal != o.refusal {
             continue;
         }
+        let near = o.met.iter().any(|what| NO_ENTRY.contains(what) || ENTRIES.contains(what));
+        if !near && (q.bytes.len() > if title { LONGEST_TITLE } else { LONGEST } || title && n[0] > 1024) {
+            continue;
+        }
         // short texts come again and again
         if kind(class) > 6 && !taken.insert((q.bytes.clone(), n)) {
             continue;
@@ -189,11 +197,12 @@ fn rows(class: &Class, world: &World, side: &Side) -> (usize, Vec<u8>) {
         // of accepted titles as many with neither start nor stop, with either and with both, and beside them with a text of no bytes
         let stood = STOOD.iter().position(|what| title && o.met.contains(what));
         let quota = match (title, refusal) {
+            _ if near => EACH_NEAR,
             (true, _) => EACH_TITLE,
             (false, 0) => 4 * EACH,
             (false, _) => EACH,
         };
-        let seen = met.entry((refusal, stood)).or_default();
+        let seen = met.entry((refusal, stood, near)).or_default();
         if *seen >= quota {
             continue;
         }
@@ -203,6 +212,7 @@ fn rows(class: &Class, world: &World, side: &Side) -> (usize, Vec<u8>) {
         clipped += o.met.contains(&CLIPPED) as usize;
         empty += o.empty.is_some() as usize;
         hidden += o.met.contains(&BOTH) as usize;
+        banded += near as usize;
         out.extend([kind(class), refusal]);
         for word in [q.bytes.len(), n[0], n[1], n[2], n[3]] {
             out.extend((word as u16).to_be_bytes());
@@ -211,7 +221,7 @@ fn rows(class: &Class, world: &World, side: &Side) -> (usize, Vec<u8>) {
         out.extend(&q.bytes);
     }
     let mut answers: BTreeMap<u8, usize> = BTreeMap::new();
-    for ((refusal, _), count) in met {
+    for ((refusal, ..), count) in met {
         *answers.entry(refusal).or_default() += count;
     }
     let met: Vec<String> = answers.iter().map(|(r, c)| format!("{r}: {c}")).collect();
@@ -222,6 +232,9 @@ fn rows(class: &Class, world: &World, side: &Side) -> (usize, Vec<u8>) {
     );
     if hidden > 0 {
         println!("    {hidden} accepted with a start and a stop");
+    }
+    if banded > 0 {
+        println!("    {banded} with 31 to 34 bands");
     }
     (count, out)
 }

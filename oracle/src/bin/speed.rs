@@ -1,5 +1,6 @@
 // Times the original and the port on the same inputs, in turn, in one run. A ratio above 1 says that the port is the faster one.
-use oracle::classes::unit::{area, put, set_word};
+use oracle::classes::bands::header;
+use oracle::classes::unit::{area, change, put, set_word};
 use oracle::original;
 use oracle::oxideav_core;
 use oracle::port;
@@ -35,7 +36,7 @@ struct Lent {
     scratch: Vec<u8>,
     map: Vec<u8>,
     canvas: Vec<u8>,
-    words: Vec<u16>,
+    bands: [u16; port::BANDS],
     numbers: [usize; port::NUMBERS],
 }
 
@@ -85,7 +86,7 @@ fn beside(name: &str, original: &mut dyn FnMut(), port: &mut dyn FnMut()) {
     );
 }
 
-// All units, to record, map and words. The original makes its map anew, cleared, and its bands; the port's are lent, and the part of the map
+// All units, to record, map and bands. The original makes its map anew, cleared, and its bands; the port's are lent, and the part of the map
 // that a unit needs is cleared before each call, though the port does not ask for that.
 fn decode(name: &str, units: &[Vec<u8>], lent: &mut Lent) {
     let needs: Vec<usize> = units.iter().map(|u| original::parse_and_decode_spu(u).map_or(0, |d| d.1.len())).collect();
@@ -99,7 +100,7 @@ fn decode(name: &str, units: &[Vec<u8>], lent: &mut Lent) {
         &mut || {
             for (unit, &need) in units.iter().zip(&needs) {
                 lent.map[..need].fill(0);
-                let refusal = port::unit(black_box(unit), &mut lent.map, &mut lent.words, &mut lent.numbers);
+                let refusal = port::unit(black_box(unit), &mut lent.map, &mut lent.bands, &mut lent.numbers);
                 assert_eq!(refusal, 0);
             }
         },
@@ -186,7 +187,7 @@ fn cues(title: &Title, lent: &mut Lent) {
         lent.map[..need / 4].fill(0);
         lent.canvas[..need].fill(0);
         let (mut times, mut numbers) = ([0; port::TIMES], [0; port::SHOWN_NUMBERS]);
-        let buffers = port::Lent { scratch: &mut lent.scratch, pixels: &mut lent.map, words: &mut lent.words, canvas: &mut lent.canvas };
+        let buffers = port::Lent { scratch: &mut lent.scratch, pixels: &mut lent.map, canvas: &mut lent.canvas };
         let refusal = port::decode_cue(black_box(text), black_box(file), cue, stream, buffers, &mut times, &mut numbers);
         assert_eq!(refusal, 0);
         black_box((times, numbers));
@@ -237,17 +238,16 @@ fn cues(title: &Title, lent: &mut Lent) {
     );
 }
 
-// The layers alone: the payload of the long band list, and one field of the codes of one nibble.
+// The layers alone: payloads of as many bands as there may be, and one field of the codes of one nibble.
 fn layers(lent: &mut Lent) {
-    let unit = many_bands();
-    for (name, payload) in [("16,380 bands", unit[11..].to_vec()), ("6,552 bands of one entry", bands_of(1)), ("697 bands of 15 entries", bands_of(15))] {
-        let mut count = 0;
+    for (name, entries) in ENTRIES {
+        let (payload, mut count) = (most_bands(entries), 0);
         beside(
-            &format!("{name}, the payload alone"),
+            &format!("32 bands of {name}, the payload alone"),
             &mut || {
                 black_box(original::parse_chg_colcon_payload(black_box(&payload)).is_ok());
             },
-            &mut || assert_eq!(port::bands(black_box(&payload), &mut lent.words, 0, &mut count), 0),
+            &mut || assert_eq!(port::bands(black_box(&payload), &mut lent.bands, &mut count), 0),
         );
     }
     let unit = one_nibble();
@@ -285,27 +285,26 @@ fn overlapping(length: usize) -> Vec<u8> {
     headed(unit, 4)
 }
 
-// A colour change with as many bands as a unit holds.
-fn many_bands() -> Vec<u8> {
-    let mut unit = vec![0, 0, 0, 0, 0, 0, 0, 4, 0x07];
-    let size = (65535 - unit.len()) / 4 * 4 - 2;
-    put(&mut unit, size);
-    unit.resize(9 + size, 0);
-    headed(unit, 4)
-}
+const ENTRIES: [(&str, usize); 3] = [("no entry", 0), ("one entry", 1), ("15 entries", 15)];
 
-// A payload with as many bands of that many entries as a unit holds.
-fn bands_of(entries: usize) -> Vec<u8> {
+// A payload of 32 bands of that many entries.
+fn most_bands(entries: usize) -> Vec<u8> {
     let mut payload = Vec::new();
-    while payload.len() + 4 + 6 * entries <= 65520 {
-        payload.extend([0, 0]);
-        put(&mut payload, entries << 12);
+    for line in 0..32 {
+        header(&mut payload, line, line, entries);
         for i in 0..entries {
             put(&mut payload, i);
             payload.extend([0x01, 0x23, 0x0F, 0xFF]);
         }
     }
     payload
+}
+
+// A unit of one pixel and a colour change with that payload.
+fn banded(payload: &[u8]) -> Vec<u8> {
+    let mut unit = vec![0, 0, 0, 0, 0, 0, 0, 4];
+    change(&mut unit, payload);
+    headed(unit, 4)
 }
 
 // Codes of one nibble and one pixel, as many as a unit holds; both fields read the same bytes.
@@ -323,17 +322,19 @@ fn one_nibble() -> Vec<u8> {
 }
 
 fn main() {
-    let mut lent = Lent { starts: vec![0; 2000], positions: vec![0; 2000], palette: [0; port::COLOURS], scratch: vec![0; 65536], map: vec![0; 1 << 24], canvas: vec![0; 1 << 22], words: vec![0; 1 << 16], numbers: [0; port::NUMBERS] };
+    let mut lent = Lent { starts: vec![0; 2000], positions: vec![0; 2000], palette: [0; port::COLOURS], scratch: vec![0; 65536], map: vec![0; 1 << 24], canvas: vec![0; 1 << 22], bands: [0; port::BANDS], numbers: [0; port::NUMBERS] };
     for title in titles().iter().filter(|t| t.name.starts_with("bench")) {
         let units: Vec<Vec<u8>> = title.positions.iter().map(|&p| original::extract_spu(&title.file[p..]).expect("a unit")).collect();
         index(title, &mut lent);
         extract(&format!("{}, {} units from packets", title.name, units.len()), title, &mut lent);
-        decode(&format!("{}, {} units to record, map and words", title.name, units.len()), &units, &mut lent);
+        decode(&format!("{}, {} units to record, map and bands", title.name, units.len()), &units, &mut lent);
         cues(title, &mut lent);
     }
     decode("blocks that overlap, 8,000 bytes", &[overlapping(8000)], &mut lent);
     decode("blocks that overlap, 65,532 bytes", &[overlapping(65535)], &mut lent);
-    decode("16,380 bands", &[many_bands()], &mut lent);
+    for (name, entries) in ENTRIES {
+        decode(&format!("32 bands of {name}"), &[banded(&most_bands(entries))], &mut lent);
+    }
     decode("codes of one nibble", &[one_nibble()], &mut lent);
     layers(&mut lent);
 }

@@ -1,12 +1,14 @@
 // A cue's canvas from index text and file, in one call. The bytes: four with the text's length, two with the cue's number, two with the
 // stream, the text, the file.
-// n: how scratch, map, words and canvas are lent (0 exactly as long as needed, 1 longer, 2 one short, 3 none).
+// n: how scratch, map and canvas are lent (0 exactly as long as needed, 1 longer, 2 one short, 3 none).
 use crate::class::*;
+use crate::classes::bands::{self, Area, about};
 use crate::classes::idx::{ANY, Expected, SHORT_TEXTS, TIMES, expected, line, number, short_text};
 use crate::classes::packets::{above, another, in_packets};
 use crate::classes::unit::{area, by_mode, change, delay, made, put, set_word};
-use crate::classes::{bands, field};
+use crate::classes::{crowd, field};
 use crate::empty::{self, GIVEN, NEAR, REFUSED};
+use crate::limit;
 use crate::port;
 use crate::random::Random;
 use crate::side::{Delays, Painted, Seen, Side, number_of};
@@ -21,7 +23,7 @@ pub const CLASS: Class = Class {
     fixed,
     generate,
     compare,
-    refusals: &[1, 2, 3, 4, 5, 6, 7, 8, 9, 11, 12, 13, 14, 15, 16, 17, 18, 19, 20, 21, 22, 23, 24, 25, 26, 32, 33],
+    refusals: &[1, 2, 3, 4, 5, 6, 7, 8, 9, 11, 12, 13, 14, 15, 16, 17, 18, 19, 20, 21, 22, 24, 25, 26, 32, 33, 34],
     met: &[
         PARTED,
         ABSENT,
@@ -44,6 +46,17 @@ pub const CLASS: Class = Class {
         times::UNTIMED,
         times::LONG_BARE,
         times::LONG_JOINED,
+    ],
+    rarer: &[
+        &limit::ONE,
+        &limit::SEVERAL,
+        &limit::OVERLAP,
+        &limit::NO_ENTRY,
+        &limit::ENTRIES,
+        &limit::WORDS,
+        &limit::BEFORE,
+        &limit::LATE,
+        &[limit::NO_SCRATCH, limit::NO_MAP, limit::NO_CANVAS, limit::LEAVES, limit::BARE, limit::JOINED],
     ],
     accepted: true,
     dear: 4,
@@ -72,7 +85,8 @@ pub fn parts(bytes: &[u8]) -> (&[u8], &[u8], usize, usize) {
 }
 
 // Every cue of the small titles, lent exactly, more, and each buffer one short, and for another stream and 32; every cue of a title of few,
-// and of one of many each tenth. Every real unit with a text of no bytes. Every delay, and times at the ends of their range.
+// and of one of many each tenth. Every real unit with a text of no bytes. Every delay, and times at the ends of their range. Units with 31 to
+// 34 bands.
 fn fixed(world: &World, each: &mut dyn FnMut(Request)) {
     for title in titles() {
         let (text, cues) = (title.text.as_bytes(), title.positions.len());
@@ -80,7 +94,7 @@ fn fixed(world: &World, each: &mut dyn FnMut(Request)) {
         for cue in (0..=cues).step_by(if cues > 100 { 10 } else { 1 }) {
             let stream = title.positions.get(cue).map_or(0, |&p| stream_at(&title.file, p));
             each(request(text, &title.file, cue, stream, [1; 4]));
-            for short in 0..if small { 4 } else { 0 } {
+            for short in 0..if small { 3 } else { 0 } {
                 let mut n = [0; 4];
                 each(request(text, &title.file, cue, stream, n));
                 n[short] = 2;
@@ -116,7 +130,7 @@ fn fixed(world: &World, each: &mut dyn FnMut(Request)) {
                 each(request(text, file, cue, stream, [1; 4]));
             }
             each(request(b"", file, cue, stream, [0; 4]));
-            for (buffer, mode) in (0..4).flat_map(|buffer| [2, 3].map(|mode| (buffer, mode))) {
+            for (buffer, mode) in (0..3).flat_map(|buffer| [2, 3].map(|mode| (buffer, mode))) {
                 let mut n = [0; 4];
                 n[buffer] = mode;
                 each(request(b"", file, cue, stream, n));
@@ -124,6 +138,12 @@ fn fixed(world: &World, each: &mut dyn FnMut(Request)) {
         }
     }
     fixed_times(each);
+    // with a start from which every time stays, and with one from which each leaves whose delay is not 0
+    crowd::fixed(31..35, &mut |unit| {
+        for start in [1000, MOST] {
+            lent_all_ways(&at(start), &unit, each);
+        }
+    });
 }
 
 // Four pixels with a band, the first field at that place, and blocks of one command each, with their delays.
@@ -201,47 +221,19 @@ fn fixed_times(each: &mut dyn FnMut(Request)) {
 
 // A unit bare and in a packet, with buffers that are as long as needed, longer, one short and none.
 fn lent_all_ways(text: &[u8], unit: &[u8], each: &mut dyn FnMut(Request)) {
-    let mut packet = vec![0, 0, 1, 0xBD, 0, unit.len() as u8 + 4, 0x80, 0, 0, 0x20];
+    let mut packet = vec![0, 0, 1, 0xBD];
+    put(&mut packet, unit.len() + 4);
+    packet.extend([0x80, 0, 0, 0x20]);
     packet.extend(unit);
     for file in [unit, &packet] {
         each(request(text, file, 0, 0, [0; 4]));
         each(request(text, file, 0, 0, [1; 4]));
-        for (buffer, mode) in (0..4).flat_map(|buffer| [2, 3].map(|mode| (buffer, mode))) {
+        for (buffer, mode) in (0..3).flat_map(|buffer| [2, 3].map(|mode| (buffer, mode))) {
             let mut n = [0; 4];
             n[buffer] = mode;
             each(request(text, file, 0, 0, n));
         }
     }
-}
-
-fn nibbles(r: &mut Random) -> [u8; 2] {
-    let mut four = [r.byte(), r.byte()];
-    if r.once_in(3) {
-        four[r.below(2)] &= *r.pick(&[0x0F, 0xF0, 0x00]);
-    }
-    four
-}
-
-// Bands about the picture: some end a line before it, some start at its last.
-fn about(r: &mut Random, x: usize, y: usize, width: usize, height: usize) -> Vec<u8> {
-    let mut out = Vec::new();
-    for _ in 0..r.within(1, 4) {
-        let first = (y + r.below(height + 2)).saturating_sub(1).min(4095);
-        let last = (first + r.below(height + 1)).min(4095);
-        let n = r.below(5);
-        out.extend([(first / 256) as u8, first as u8, (n * 16 + last / 256) as u8, last as u8]);
-        let mut column = (x + r.below(width + 2)).saturating_sub(1);
-        for _ in 0..n {
-            put(&mut out, column);
-            out.extend(nibbles(r));
-            out.extend(nibbles(r));
-            column += if r.once_in(2) { 1 } else { r.within(1, width + 1) };
-        }
-    }
-    if r.once_in(2) {
-        out.extend([0x0F, 0xFF, 0xFF, 0xFF]);
-    }
-    out
 }
 
 // What is wrong with a request. Half of them are sound.
@@ -264,7 +256,6 @@ enum Fault {
     NoUnit,
     Scratch,
     Pixels,
-    Words,
     Canvas,
     FileDamaged,
     TextDamaged,
@@ -286,14 +277,36 @@ const LINES: [&str; 8] = [
 
 fn fault(r: &mut Random) -> Fault {
     use Fault::*;
-    const FAULTS: [Fault; 22] = [
-        Under4, WrongC, Parameters, SmallS, NoBands, Unknown, Inverted, Offset, RanOut, HighByte, NoCue, Past, NoUnit, Scratch, Pixels, Words, Canvas, FileDamaged, TextDamaged, FarApart, Cut, OtherPlace,
+    const FAULTS: [Fault; 21] = [
+        Under4, WrongC, Parameters, SmallS, NoBands, Unknown, Inverted, Offset, RanOut, HighByte, NoCue, Past, NoUnit, Scratch, Pixels, Canvas, FileDamaged, TextDamaged, FarApart, Cut, OtherPlace,
     ];
     match r.below(2 * (LINES.len() + FAULTS.len())) {
         i if i < LINES.len() => Line(i),
         i if i < LINES.len() + FAULTS.len() => FAULTS[i - LINES.len()],
         _ => None,
     }
+}
+
+// What may be wrong with a request whose unit has about 32 bands. Half of them are sound.
+fn crowd_fault(r: &mut Random) -> Fault {
+    use Fault::*;
+    const FAULTS: [Fault; 10] = [Parameters, SmallS, NoBands, Unknown, Inverted, Offset, RanOut, Scratch, Pixels, Canvas];
+    if r.once_in(2) { None } else { *r.pick(&FAULTS) }
+}
+
+// A unit with about 32 bands, and what is wrong with it.
+fn crowded(r: &mut Random, fault: Fault) -> Vec<u8> {
+    let number = match fault {
+        Fault::Parameters => 17,
+        Fault::SmallS => 18,
+        Fault::NoBands => 19,
+        Fault::Unknown => 20,
+        Fault::Inverted => 21,
+        Fault::Offset => 25,
+        Fault::RanOut => 26,
+        _ => 0,
+    };
+    crowd::unit(r, number)
 }
 
 // A unit with bands about its picture, or none.
@@ -319,9 +332,9 @@ fn banded(r: &mut Random, fault: Fault) -> Vec<u8> {
         put(&mut bytes, start);
         if block == 0 || r.once_in(4) {
             bytes.push(0x03);
-            bytes.extend(nibbles(r));
+            bytes.extend(bands::nibbles(r));
             bytes.push(0x04);
-            bytes.extend(nibbles(r));
+            bytes.extend(bands::nibbles(r));
         }
         if block == 0 {
             area(&mut bytes, x1, x1 + width - 1, y1, y1 + height - 1);
@@ -330,8 +343,12 @@ fn banded(r: &mut Random, fault: Fault) -> Vec<u8> {
             put(&mut bytes, 4);
             put(&mut bytes, bottom);
         }
-        if r.once_in(2) || matches!(fault, Fault::NoBands | Fault::SmallS | Fault::Words) {
-            let mut payload = about(r, x1, y1, width, height);
+        if r.once_in(2) || matches!(fault, Fault::NoBands | Fault::SmallS) {
+            let count = r.within(1, 4);
+            let mut payload = about(r, count, (0, 4), &Area { x: x1, y: y1, width, height });
+            if r.once_in(2) {
+                payload.extend([0x0F, 0xFF, 0xFF, 0xFF]);
+            }
             if fault == Fault::NoBands {
                 bands::damage(r, &mut payload);
             }
@@ -447,7 +464,9 @@ fn late(r: &mut Random, unit: &[u8]) -> i64 {
 }
 
 fn generate(world: &World, r: &mut Random) -> Request {
-    let fault = fault(r);
+    // whether the unit has about 32 bands
+    let crowd = r.once_in(3);
+    let fault = if crowd { crowd_fault(r) } else { fault(r) };
     // whether its start is near the end of the range (1), or near the other end (-1)
     let end = *r.pick(&[0, 0, 0, 0, 0, 1, 1, 1, -1]);
     // the cue of a text of no bytes is at the front of the file
@@ -462,6 +481,7 @@ fn generate(world: &World, r: &mut Random) -> Request {
     for i in 0..cues {
         let wrong = if i == cue { fault } else { Fault::None };
         let mut unit = match r.below(30) {
+            _ if crowd && i == cue => crowded(r, fault),
             0 if wrong == Fault::None => r.pick(&world.units).clone(),
             1..8 if wrong == Fault::None => made(r),
             _ => banded(r, wrong),
@@ -493,7 +513,7 @@ fn generate(world: &World, r: &mut Random) -> Request {
         let (i, j) = (r.below(cues), r.below(cues));
         starts.swap(i, j);
     }
-    let mut n = [r.below(2), r.below(2), r.below(2), r.below(2)];
+    let mut n = [r.below(2), r.below(2), r.below(2), 0];
     let position = positions[cue];
     match fault {
         Fault::NoCue => cue = *r.pick(&[cues, cues + 1, 65535]),
@@ -509,8 +529,7 @@ fn generate(world: &World, r: &mut Random) -> Request {
         },
         Fault::Scratch => n[0] = r.within(2, 3),
         Fault::Pixels => n[1] = r.within(2, 3),
-        Fault::Words => n[2] = r.within(2, 3),
-        Fault::Canvas => n[3] = r.within(2, 3),
+        Fault::Canvas => n[2] = r.within(2, 3),
         Fault::FileDamaged => {
             for _ in 0..r.within(1, 4) {
                 let i = r.within(position, file.len() - 1);
@@ -536,7 +555,6 @@ fn generate(world: &World, r: &mut Random) -> Request {
 struct Lent {
     scratch: Vec<u8>,
     pixels: Vec<u8>,
-    words: Vec<u16>,
     canvas: Vec<u8>,
 }
 
@@ -557,50 +575,45 @@ struct Answer {
 struct Fronts<'a> {
     scratch: &'a [u8],
     pixels: &'a [u8],
-    words: &'a [u16],
     canvas: &'a [u8],
 }
 
 // Whether a buffer has this front, and its pattern from there on; the pattern is put back.
-fn holds<T: Copy + PartialEq>(lent: &mut [T], room: usize, front: &[T], pattern: T) -> bool {
-    let same = front.len() <= room && lent[..front.len()] == *front && lent[front.len()..room + MARGIN].iter().all(|&v| v == pattern);
-    if same { lent[..front.len()].fill(pattern) } else { lent.fill(pattern) }
+fn holds(lent: &mut [u8], room: usize, front: &[u8]) -> bool {
+    let same = front.len() <= room && lent[..front.len()] == *front && lent[front.len()..room + MARGIN].iter().all(|&b| b == BYTE);
+    if same { lent[..front.len()].fill(BYTE) } else { lent.fill(BYTE) }
     same
 }
 
 impl Lent {
-    fn ask(&mut self, q: &Request, rooms: [usize; 4]) -> Answer {
+    fn ask(&mut self, q: &Request, rooms: [usize; 3]) -> Answer {
         let (text, file, cue, stream) = parts(&q.bytes);
-        let [a, b, c, d] = rooms;
-        for (buffer, room) in [(&mut self.scratch, a), (&mut self.pixels, b), (&mut self.canvas, d)] {
+        let [a, b, c] = rooms;
+        for (buffer, room) in [(&mut self.scratch, a), (&mut self.pixels, b), (&mut self.canvas, c)] {
             if buffer.len() < room + MARGIN {
                 buffer.resize(room + MARGIN, BYTE);
             }
         }
-        if self.words.len() < c + MARGIN {
-            self.words.resize(c + MARGIN, WORD);
-        }
         let (mut times, mut numbers) = ([START; port::TIMES], [NUMBER as u64; port::SHOWN_NUMBERS]);
-        let lent = port::Lent { scratch: &mut self.scratch[..a], pixels: &mut self.pixels[..b], words: &mut self.words[..c], canvas: &mut self.canvas[..d] };
+        let lent = port::Lent { scratch: &mut self.scratch[..a], pixels: &mut self.pixels[..b], canvas: &mut self.canvas[..c] };
         let refusal = port::decode_cue(text, file, cue, stream, lent, &mut times, &mut numbers);
         Answer { refusal, times, numbers }
     }
 
     // Notes where a buffer does not have its front, or is written past it.
-    fn left(&mut self, o: &mut Outcome, rooms: [usize; 4], fronts: Fronts) {
+    fn left(&mut self, o: &mut Outcome, rooms: [usize; 3], fronts: Fronts) {
         let same = [
-            holds(&mut self.scratch, rooms[0], fronts.scratch, BYTE),
-            holds(&mut self.pixels, rooms[1], fronts.pixels, BYTE),
-            holds(&mut self.words, rooms[2], fronts.words, WORD),
-            holds(&mut self.canvas, rooms[3], fronts.canvas, BYTE),
+            holds(&mut self.scratch, rooms[0], fronts.scratch),
+            holds(&mut self.pixels, rooms[1], fronts.pixels),
+            holds(&mut self.canvas, rooms[2], fronts.canvas),
         ];
-        for (same, name) in same.into_iter().zip(["scratch", "the map", "the words", "the canvas"]) {
+        for (same, name) in same.into_iter().zip(["scratch", "the map", "the canvas"]) {
             o.must(same, || format!("{name}: other bytes than asked for, or written past them"));
         }
     }
 
     // The answer must be a refusal with that number, and nothing stored but a joined unit.
-    fn refused(&mut self, o: &mut Outcome, a: &Answer, number: u8, rooms: [usize; 4], scratch: &[u8]) {
+    fn refused(&mut self, o: &mut Outcome, a: &Answer, number: u8, rooms: [usize; 3], scratch: &[u8]) {
         o.refusal = a.refusal;
         o.must(a.refusal == number, || format!("{number} is asked for; the port says {}", a.refusal));
         o.must(a.times == [START; port::TIMES] && a.numbers == [NUMBER as u64; port::SHOWN_NUMBERS], || "times or numbers are written on a refusal".into());
@@ -614,14 +627,14 @@ fn compare(side: &Side, q: &Request) -> Outcome {
     o
 }
 
-const SHORT: [&str; 3] = ["22: a map is lent, and too short", "23: words are lent, and too few", "24: a canvas is lent, and too short"];
-const BEFORE: &str = "22 to 24 are checked before 25 and 26";
+const SHORT: [(&str, u8); 2] = [("22: a map is lent, and too short", 22), ("24: a canvas is lent, and too short", 24)];
+const BEFORE: &str = "22 and 24 are checked before 25 and 26";
 
 fn compared(lent: &mut Lent, side: &Side, q: &Request) -> Outcome {
     let mut o = Outcome::default();
     let (text, file, cue, stream) = parts(&q.bytes);
     // as much as a refusal before the unit may meet
-    let some = [64, 64, 64, 256];
+    let some = [64, 64, 256];
     let (index, panicked) = expected(side, text, ANY);
     (o.panicked, o.empty) = (panicked, side.empty.rule(text));
     let mut index = match index {
@@ -683,33 +696,44 @@ fn compared(lent: &mut Lent, side: &Side, q: &Request) -> Outcome {
         Ok(Seen::Unit { unit, joined, same, shows }) => {
             o.must(same, || "the original's packet has another unit than it finds".into());
             let scratch = if joined { by_mode(q.n[0], unit.len()) } else { q.n[0] };
+            let number = shows.as_ref().map_or_else(|message| number_of(message), |_| 0);
+            let counts = crate::counted(|| (side.counting.unit)(&unit));
+            let many = side.limit.rule(counts, number);
             if joined && scratch < unit.len() {
                 o.rule = Some("14: scratch is lent, and too short");
-                let rooms = [scratch, 64, 64, 256];
+                let rooms = [scratch, 64, 256];
                 let a = lent.ask(q, rooms);
                 lent.refused(&mut o, &a, 14, rooms, &[]);
+                o.met.extend(many.map(|_| limit::NO_SCRATCH));
                 return o;
             }
             let stored = if joined { &unit[..] } else { &[] };
             match shows {
-                Err(message) => declined(&mut o, lent, q, number_of(&message), scratch, stored),
+                shows if many.is_some() => {
+                    // a panic that no rule covers stays a difference
+                    let covered = o.panicked.is_none() || o.rule.is_some();
+                    o.must(covered, || "the original panicked, and has too many bands".into());
+                    o.rule = many;
+                    crowded_out(&mut o, lent, side, q, shows.as_deref().ok(), scratch, stored, counts);
+                }
+                Err(_) => declined(&mut o, lent, q, number, scratch, stored),
                 Ok(mut painted) => {
                     if o.panicked.is_some() {
                         painted.duration = lasts;
                     }
-                    let counts = crate::counted(|| (side.counting.unit)(&unit));
                     found(&mut o, lent, side, q, &painted, scratch, stored, counts);
                     o.met.extend((o.both && walk.parted).then_some(PARTED));
                 }
             }
+            o.met.extend(limit::met(&o, counts, number));
         }
     }
     o
 }
 
 // How much of each buffer is lent for the fixed list: what the request says of what the original needs, and enough where it refuses.
-pub fn rooms(side: &Side, q: &Request) -> [usize; 4] {
-    let some = [64, 1024, 256, 4096];
+pub fn rooms(side: &Side, q: &Request) -> [usize; 3] {
+    let some = [64, 1024, 4096];
     let (text, file, cue, stream) = parts(&q.bytes);
     let Expected::Given(index) = expected(side, text, ANY).0 else { return some };
     if stream > TOP_STREAM || cue >= index.cues.len() {
@@ -719,45 +743,57 @@ pub fn rooms(side: &Side, q: &Request) -> [usize; 4] {
     let Ok(Seen::Unit { unit, joined, shows, .. }) = tried(|| (side.seen)(&index, file, cue, true)) else { return some };
     let scratch = if joined { by_mode(q.n[0], unit.len()) } else { q.n[0] };
     match shows {
-        Ok(p) => [scratch, by_mode(q.n[1], p.decoded.map.len()), by_mode(q.n[2], p.decoded.words.len()), by_mode(q.n[3], p.canvas.len())],
-        Err(_) => [scratch, if q.n[1] > 1 { 0 } else { some[1] }, some[2], some[3]],
+        Ok(p) => [scratch, by_mode(q.n[1], p.decoded.map.len()), by_mode(q.n[2], p.canvas.len())],
+        Err(_) => [scratch, if q.n[1] > 1 { 0 } else { some[1] }, some[2]],
     }
 }
 
 // A unit that the original refuses. How much one with 25 or 26 would need, it does not say: more is lent until that is enough.
 fn declined(o: &mut Outcome, lent: &mut Lent, q: &Request, number: u8, scratch: usize, stored: &[u8]) {
     let late = number >= 25;
-    let mut rooms = [scratch, 64, 64, 256];
+    let mut rooms = [scratch, 64, 256];
     if late && q.n[1] > 1 {
         // every picture has a pixel
         rooms[1] = 0;
-        o.rule = Some(SHORT[0]);
+        o.rule = Some(SHORT[0].0);
         let a = lent.ask(q, rooms);
         return lent.refused(o, &a, 22, rooms, stored);
     }
     let mut a = lent.ask(q, rooms);
-    while late && (22..25).contains(&a.refusal) && rooms[3] < 1 << 26 && rooms[2] < 1 << 20 {
+    while late && matches!(a.refusal, 22 | 24) && rooms[2] < 1 << 26 {
         o.rule = Some(BEFORE);
-        match a.refusal {
-            22 => rooms[1] *= 16,
-            23 => rooms[2] *= 16,
-            _ => rooms[3] *= 16,
-        }
+        rooms[if a.refusal == 22 { 1 } else { 2 }] *= 16;
         // what a shorter buffer was refused with left all as it was, but for scratch
         a = lent.ask(q, rooms);
     }
     lent.refused(o, &a, number, rooms, stored);
 }
 
+// A unit with too many bands, which the original paints or says 25 or 26 of: 34 is asked for before all that a short map, a short canvas or a
+// time that leaves would be refused with.
+fn crowded_out(o: &mut Outcome, lent: &mut Lent, side: &Side, q: &Request, p: Option<&Painted>, scratch: usize, stored: &[u8], counts: Counts) {
+    let needs = p.map_or([64, 256], |p| [p.decoded.map.len(), p.canvas.len()]);
+    let rooms = [scratch, by_mode(q.n[1], needs[0]), by_mode(q.n[2], needs[1])];
+    let a = lent.ask(q, rooms);
+    lent.refused(o, &a, 34, rooms, stored);
+    let cue = p.and_then(|p| p.start.map(|start| Delays::of(start, &p.decoded, counts)));
+    let mut meets = |holds: bool, what| o.met.extend(holds.then_some(what));
+    meets(rooms[1] < needs[0], limit::NO_MAP);
+    meets(rooms[2] < needs[1], limit::NO_CANVAS);
+    meets(cue.is_some_and(|cue| side.times.rule(cue).is_some()), limit::LEAVES);
+    meets(stored.is_empty(), limit::BARE);
+    meets(!stored.is_empty(), limit::JOINED);
+}
+
 // A unit that the original paints.
 fn found(o: &mut Outcome, lent: &mut Lent, side: &Side, q: &Request, p: &Painted, scratch: usize, stored: &[u8], counts: Counts) {
-    let needs = [p.decoded.map.len(), p.decoded.words.len(), p.canvas.len()];
-    let rooms = [scratch, by_mode(q.n[1], needs[0]), by_mode(q.n[2], needs[1]), by_mode(q.n[3], needs[2])];
+    let needs = [p.decoded.map.len(), p.canvas.len()];
+    let rooms = [scratch, by_mode(q.n[1], needs[0]), by_mode(q.n[2], needs[1])];
     let a = lent.ask(q, rooms);
     o.refusal = a.refusal;
-    if let Some(short) = (0..3).find(|&i| rooms[i + 1] < needs[i]) {
-        o.rule = Some(SHORT[short]);
-        return lent.refused(o, &a, 22 + short as u8, rooms, stored);
+    if let Some(short) = (0..2).find(|&i| rooms[i + 1] < needs[i]) {
+        o.rule = Some(SHORT[short].0);
+        return lent.refused(o, &a, SHORT[short].1, rooms, stored);
     }
     let start = p.start.expect("a start");
     o.must(p.time == p.start, || "the original's frame has another time than its packet".into());
@@ -790,5 +826,5 @@ fn found(o: &mut Outcome, lent: &mut Lent, side: &Side, q: &Request, p: &Painted
     ];
     o.must(a.numbers == asked || a.refusal != 0, || format!("the numbers {asked:?}; the port says {:?}", a.numbers));
     o.met.extend(counts.met().chain([times::stood(counts)]).filter(|_| o.both));
-    lent.left(o, rooms, Fronts { scratch: stored, pixels: &p.decoded.map, words: &p.decoded.words, canvas: &p.canvas });
+    lent.left(o, rooms, Fronts { scratch: stored, pixels: &p.decoded.map, canvas: &p.canvas });
 }

@@ -1,6 +1,7 @@
 // Chains of control blocks: units whose fields are fills, with commands of all kinds, blocks that overlap and words next that point anywhere.
 use crate::class::*;
-use crate::classes::{bands, unit};
+use crate::classes::{bands, crowd, unit};
+use crate::limit;
 use crate::random::Random;
 use crate::times::STOOD;
 
@@ -9,8 +10,9 @@ pub const CLASS: Class = Class {
     fixed,
     generate,
     compare: unit::compare,
-    refusals: &[16, 17, 18, 19, 20, 21, 22, 23, 25, 26],
+    refusals: &[16, 17, 18, 19, 20, 21, 22, 25, 26, 34],
     met: &STOOD,
+    rarer: &[&limit::ONE, &limit::SEVERAL, &limit::OVERLAP],
     accepted: true,
     dear: 1,
 };
@@ -25,7 +27,7 @@ fn with_commands(commands: &[u8]) -> Vec<u8> {
 }
 
 fn fixed(_: &World, each: &mut dyn FnMut(Request)) {
-    let n = [1, 1, 0, 0];
+    let n = [1, 0, 0, 0];
     each(Request { bytes: with_commands(&[]), n });
     // all pairs of bytes as commands, and each command with too few and enough parameters
     for a in 0..=255u8 {
@@ -69,6 +71,10 @@ fn command(r: &mut Random, fills: usize, out: &mut Vec<u8>) {
 }
 
 fn generate(_: &World, r: &mut Random) -> Request {
+    if r.once_in(24) {
+        let number = unit::refused_with(r);
+        return Request { bytes: crowd::unit(r, number), n: unit::lending(r) };
+    }
     let fills = r.within(4, 16);
     let mut bytes = vec![0; 4 + 2 * fills];
     for b in bytes[4..].iter_mut().skip(1).step_by(2) {

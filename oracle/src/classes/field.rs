@@ -5,7 +5,7 @@ use crate::random::Random;
 use crate::side::{Side, number_of};
 use crate::{CLIPPED, EXACT, LONG_FILL};
 
-pub const CLASS: Class = Class { name: "fields", fixed, generate, compare, refusals: &[22, 26], met: &[CLIPPED, EXACT, LONG_FILL], accepted: true, dear: 1 };
+pub const CLASS: Class = Class { name: "fields", fixed, generate, compare, refusals: &[22, 26], met: &[CLIPPED, EXACT, LONG_FILL], rarer: &[], accepted: true, dear: 1 };
 
 fn fixed(_: &World, each: &mut dyn FnMut(Request)) {
     // every code of up to four nibbles in a row that it does not fill, that it fills, and that it clips to

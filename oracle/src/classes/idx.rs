@@ -12,6 +12,7 @@ pub const CLASS: Class = Class {
     compare,
     refusals: &[1, 2, 3, 4, 5, 6, 7, 8, 9, 10],
     met: &[GIVEN, REFUSED, NEAR],
+    rarer: &[],
     accepted: true,
     dear: 1,
 };
@@ -22,6 +23,7 @@ pub const CUE: Class = Class {
     compare: compare_cue,
     refusals: &[1, 2, 3, 4, 5, 6, 7, 8, 9, 11],
     met: &[GIVEN, REFUSED, NEAR],
+    rarer: &[],
     accepted: true,
     dear: 1,
 };

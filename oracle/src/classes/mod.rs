@@ -1,7 +1,8 @@
-// The classes. A further one is a module here with a `Class`, and a line in `all`.
+// The classes. A further one is a module here with a `Class`, and a line in `all`; `crowd` draws for several of them.
 pub mod bands;
 pub mod canvas;
 pub mod control;
+pub mod crowd;
 pub mod field;
 pub mod idx;
 pub mod packets;

@@ -6,7 +6,7 @@ use crate::random::Random;
 use crate::side::{Side, Spot};
 use crate::walk::{ABOVE, ABSENT, FIRST_ID, PARTED, TOP_STREAM, bodies, stream_at, walk};
 
-pub const CLASS: Class = Class { name: "packets", fixed, generate, compare, refusals: &[12, 13, 14, 32], met: &[PARTED, ABSENT], accepted: true, dear: 1 };
+pub const CLASS: Class = Class { name: "packets", fixed, generate, compare, refusals: &[12, 13, 14, 32], met: &[PARTED, ABSENT], rarer: &[], accepted: true, dear: 1 };
 
 fn fixed(world: &World, each: &mut dyn FnMut(Request)) {
     for (file, unit) in world.files.iter().zip(&world.units) {

@@ -4,7 +4,7 @@ use crate::port;
 use crate::random::Random;
 use crate::side::Side;
 
-pub const CLASS: Class = Class { name: "pes", fixed, generate, compare, refusals: &[13], met: &[], accepted: true, dear: 1 };
+pub const CLASS: Class = Class { name: "pes", fixed, generate, compare, refusals: &[13], met: &[], rarer: &[], accepted: true, dear: 1 };
 
 const ALPHABET: [u8; 14] = [0x00, 0x01, 0x02, 0x0F, 0x1F, 0x20, 0x2F, 0x30, 0x3F, 0x40, 0x7F, 0x80, 0xBF, 0xFF];
 

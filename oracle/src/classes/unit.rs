@@ -1,7 +1,8 @@
-// Whole units: generated ones, damaged ones and real ones. n: how the map and the words are lent (0 exactly as long as needed, 1 longer, 2 one
-// short, 3 none).
+// Whole units: generated ones, damaged ones and real ones. n: how the map is lent (0 exactly as long as needed, 1 longer, 2 one short, 3 none).
 use crate::class::*;
-use crate::classes::{bands, field};
+use crate::classes::bands::{Words, stated};
+use crate::classes::{bands, crowd, field};
+use crate::limit;
 use crate::port;
 use crate::random::Random;
 use crate::side::{Decoded, Side, number_of};
@@ -14,15 +15,26 @@ pub const CLASS: Class = Class {
     fixed,
     generate,
     compare,
-    refusals: &[15, 16, 17, 18, 19, 20, 21, 22, 23, 25, 26],
+    refusals: &[15, 16, 17, 18, 19, 20, 21, 22, 25, 26, 34],
     met: &[CLIPPED, EXACT, LONG_FILL, times::NEITHER, times::STARTED, times::STOPPED, times::BOTH],
+    rarer: &[
+        &limit::ONE,
+        &limit::SEVERAL,
+        &limit::OVERLAP,
+        &limit::NO_ENTRY,
+        &limit::ENTRIES,
+        &limit::WORDS,
+        &limit::BEFORE,
+        &limit::LATE,
+        &[limit::NO_MAP],
+    ],
     accepted: true,
     dear: 1,
 };
 
 fn fixed(world: &World, each: &mut dyn FnMut(Request)) {
     for unit in &world.units {
-        each(Request { bytes: unit.clone(), n: [1, 1, 0, 0] });
+        each(Request { bytes: unit.clone(), n: [1, 0, 0, 0] });
     }
     // every short unit with a head of small words
     for length in 0..8usize {
@@ -31,10 +43,16 @@ fn fixed(world: &World, each: &mut dyn FnMut(Request)) {
                 let mut bytes = vec![0, l, 0, c];
                 bytes.resize(4 + length, 0);
                 bytes.truncate(length);
-                each(Request { bytes, n: [1, 1, 0, 0] });
+                each(Request { bytes, n: [1, 0, 0, 0] });
             }
         }
     }
+    // no bands, one, about half of the most, about the most, and about twice as many
+    crowd::fixed([0, 1].into_iter().chain(14..19).chain(30..37).chain(62..68), &mut |bytes| {
+        for mode in 0..4 {
+            each(Request { bytes: bytes.clone(), n: [mode, 0, 0, 0] });
+        }
+    });
 }
 
 pub fn put(out: &mut Vec<u8>, word: usize) {
@@ -198,13 +216,13 @@ pub fn made(r: &mut Random) -> Vec<u8> {
 }
 
 pub fn lending(r: &mut Random) -> [usize; 4] {
-    let mut n = [r.below(2), r.below(2), 0, 0];
-    match r.below(12) {
-        0 => n[0] = r.within(2, 3),
-        1 | 2 => n[1] = r.within(2, 3),
-        _ => {}
-    }
-    n
+    let mode = if r.once_in(12) { r.within(2, 3) } else { r.below(2) };
+    [mode, 0, 0, 0]
+}
+
+// The number that a unit with about 32 bands is refused with, of those that follow from its bytes; half of them are sound.
+pub fn refused_with(r: &mut Random) -> u8 {
+    if r.once_in(2) { 0 } else { *r.pick(&[17, 18, 19, 20, 21, 25, 26]) }
 }
 
 fn generate(world: &World, r: &mut Random) -> Request {
@@ -220,6 +238,9 @@ fn generate(world: &World, r: &mut Random) -> Request {
             }
         }
         unit
+    } else if r.once_in(16) {
+        let number = refused_with(r);
+        crowd::unit(r, number)
     } else {
         made(r)
     };
@@ -233,11 +254,11 @@ fn generate(world: &World, r: &mut Random) -> Request {
 // Lent memory that keeps its pattern between requests, so that a large map need not be filled anew.
 struct Lent {
     map: Vec<u8>,
-    words: Vec<u16>,
+    words: Words,
 }
 
 thread_local! {
-    static LENT: RefCell<Lent> = const { RefCell::new(Lent { map: Vec::new(), words: Vec::new() }) };
+    static LENT: RefCell<Lent> = const { RefCell::new(Lent { map: Vec::new(), words: [WORD; _] }) };
 }
 
 struct Answer {
@@ -246,26 +267,31 @@ struct Answer {
 }
 
 impl Lent {
-    fn ask(&mut self, unit: &[u8], map: usize, words: usize) -> Answer {
+    fn ask(&mut self, unit: &[u8], map: usize) -> Answer {
         if self.map.len() < map {
             self.map.resize(map, BYTE);
         }
-        if self.words.len() < words {
-            self.words.resize(words, WORD);
-        }
         let mut numbers = [NUMBER; port::NUMBERS];
-        let refusal = port::unit(unit, &mut self.map[..map], &mut self.words[..words], &mut numbers);
+        let refusal = port::unit(unit, &mut self.map[..map], self.words.first_chunk_mut().unwrap(), &mut numbers);
         Answer { refusal, numbers }
     }
 
-    // Whether nothing is written from these places on, within what was lent.
-    fn untouched(&mut self, map: std::ops::Range<usize>, words: std::ops::Range<usize>) -> bool {
-        let same = self.map[map.clone()].iter().all(|&b| b == BYTE) && self.words[words.clone()].iter().all(|&w| w == WORD);
+    // Whether nothing is written from these places on, of the map within what was lent.
+    fn untouched(&mut self, map: std::ops::Range<usize>, words: usize) -> bool {
+        let same = self.map[map].iter().all(|&b| b == BYTE) && self.words[words..].iter().all(|&w| w == WORD);
         if !same {
             self.map.fill(BYTE);
             self.words.fill(WORD);
         }
         same
+    }
+
+    // The answer must be a refusal with that number, and nothing stored.
+    fn refused(&mut self, o: &mut Outcome, a: &Answer, number: u8, map: usize, why: impl FnOnce() -> String) {
+        o.refusal = a.refusal;
+        o.must(a.refusal == number, || format!("{}, so {number}; the port says {}", why(), a.refusal));
+        o.must(a.numbers == [NUMBER; port::NUMBERS], || "the record is written on a refusal".into());
+        o.must(self.untouched(0..map, 0), || "map or words are written on a refusal".into());
     }
 }
 
@@ -284,57 +310,63 @@ pub fn compare(side: &Side, q: &Request) -> Outcome {
 
 fn compared(lent: &mut Lent, side: &Side, q: &Request) -> Outcome {
     let mut o = Outcome::default();
-    let answer = tried(|| (side.unit)(&q.bytes));
-    match answer {
+    let answer = match tried(|| (side.unit)(&q.bytes)) {
         Err(words) => {
             o.panicked = Some(words);
-            let a = lent.ask(&q.bytes, 64, 64);
-            o.refusal = a.refusal;
+            o.refusal = lent.ask(&q.bytes, 64).refusal;
             lent.map.fill(BYTE);
             lent.words.fill(WORD);
+            return o;
         }
-        Ok(Err(message)) => {
-            let number = number_of(&message);
+        Ok(answer) => answer,
+    };
+    let number = answer.as_ref().map_or_else(|message| number_of(message), |_| 0);
+    let counts = crate::counted(|| (side.counting.unit)(&q.bytes));
+    o.rule = side.limit.rule(counts, number);
+    let many = o.rule.is_some();
+    match answer {
+        Err(message) => {
             let late = number >= 25;
-            let (mut map, mut words) = (if q.n[0] > 1 { 0 } else { 64 }, 64);
-            let mut a = lent.ask(&q.bytes, map, words);
-            if late && map == 0 {
-                o.rule = Some("22: a map is lent, and too short");
-                o.must(a.refusal == 22, || format!("no map for a unit with an area; the port says {}", a.refusal));
+            let mut map = if q.n[0] > 1 { 0 } else { 64 };
+            let mut a = lent.ask(&q.bytes, map);
+            if many {
+                o.met.extend((map == 0).then_some(limit::NO_MAP));
+                lent.refused(&mut o, &a, 34, map, || format!("{} bands", counts.bands));
+            } else if late && map == 0 {
+                o.rule = Some(SHORT);
+                lent.refused(&mut o, &a, 22, map, || "no map for a unit with an area".into());
             } else {
                 // how much a refused unit would need, the original does not say: lend more until it is enough
-                while late && (a.refusal == 22 && map < 1 << 24 || a.refusal == 23 && words < 1 << 24) {
-                    if a.refusal == 22 { map *= 64 } else { words *= 64 }
-                    a = lent.ask(&q.bytes, map.min(1 << 24), words);
-                    o.rule = Some("22 and 23 are checked before 25 and 26");
+                while late && a.refusal == 22 && map < 1 << 24 {
+                    map = (map * 64).min(1 << 24);
+                    a = lent.ask(&q.bytes, map);
+                    o.rule = Some("22 is checked before 25 and 26");
                 }
-                map = map.min(1 << 24);
-                o.must(a.refusal == number, || format!("the original says {message:?}, so {number}; the port says {}", a.refusal));
+                lent.refused(&mut o, &a, number, map, || format!("the original says {message:?}"));
             }
-            o.refusal = a.refusal;
-            o.must(a.numbers == [NUMBER; port::NUMBERS], || "the record is written on a refusal".into());
-            o.must(lent.untouched(0..map, 0..words), || "map or words are written on a refusal".into());
         }
-        Ok(Ok(d)) => {
-            let (map, words) = (by_mode(q.n[0], d.map.len()), by_mode(q.n[1], d.words.len()));
-            let a = lent.ask(&q.bytes, map, words);
-            o.refusal = a.refusal;
-            if map < d.map.len() || words < d.words.len() {
-                let number = if map < d.map.len() { 22 } else { 23 };
-                o.rule = Some(if number == 22 { "22: a map is lent, and too short" } else { "23: words are lent, and too few" });
-                o.must(a.refusal == number, || format!("{map} bytes of {}, {words} words of {}; the port says {}", d.map.len(), d.words.len(), a.refusal));
-                o.must(a.numbers == [NUMBER; port::NUMBERS], || "the record is written on a refusal".into());
-                o.must(lent.untouched(0..map, 0..words), || "map or words are written on a refusal".into());
+        Ok(d) => {
+            let map = by_mode(q.n[0], d.map.len());
+            let a = lent.ask(&q.bytes, map);
+            if many {
+                o.met.extend((map < d.map.len()).then_some(limit::NO_MAP));
+                lent.refused(&mut o, &a, 34, map, || format!("{} bands", counts.bands));
+            } else if map < d.map.len() {
+                o.rule = Some(SHORT);
+                lent.refused(&mut o, &a, 22, map, || format!("{map} bytes of {}", d.map.len()));
             } else {
-                let counts = crate::counted(|| (side.counting.unit)(&q.bytes));
-                accepted(&mut o, lent, &a, &d, counts, map, words);
+                accepted(&mut o, lent, &a, &d, counts, map);
             }
         }
     }
+    o.met.extend(limit::met(&o, counts, number));
     o
 }
 
-fn accepted(o: &mut Outcome, lent: &mut Lent, a: &Answer, d: &Decoded, counts: Counts, map: usize, words: usize) {
+const SHORT: &str = "22: a map is lent, and too short";
+
+fn accepted(o: &mut Outcome, lent: &mut Lent, a: &Answer, d: &Decoded, counts: Counts, map: usize) {
+    o.refusal = a.refusal;
     o.both = a.refusal == 0;
     o.must(a.refusal == 0, || format!("the original accepts; the port says {}", a.refusal));
     let mut numbers = a.numbers;
@@ -353,11 +385,11 @@ fn accepted(o: &mut Outcome, lent: &mut Lent, a: &Answer, d: &Decoded, counts: C
     o.must(numbers == d.numbers, || format!("the record {:?}; the port says {:?}", d.numbers, a.numbers));
     o.must((d.width, d.height) == (numbers[2] + 1 - numbers[0], numbers[3] + 1 - numbers[1]), || "width and height".into());
     o.must(lent.map[..d.map.len()] == d.map, || "the map".into());
-    o.must(lent.words[..d.words.len()] == d.words, || "the words".into());
-    o.must(lent.untouched(d.map.len()..map, d.words.len()..words), || "map or words are written past what is needed".into());
+    o.must(lent.words[..port::BANDS] == stated(&d.words), || "the words".into());
+    o.must(lent.untouched(d.map.len()..map, port::BANDS), || "map or words are written past what is needed".into());
     if o.refusal == 0 {
-        let (pixels, bands) = (d.map.len().min(lent.map.len()), d.words.len().min(lent.words.len()));
+        let pixels = d.map.len().min(lent.map.len());
         lent.map[..pixels].fill(BYTE);
-        lent.words[..bands].fill(WORD);
+        lent.words.fill(WORD);
     }
 }

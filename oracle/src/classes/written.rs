@@ -4,7 +4,7 @@ use crate::port;
 use crate::random::Random;
 use crate::side::Side;
 
-pub const CLASS: Class = Class { name: "written", fixed, generate, compare, refusals: &[27, 28, 29, 30, 31], met: &[], accepted: true, dear: 1 };
+pub const CLASS: Class = Class { name: "written", fixed, generate, compare, refusals: &[27, 28, 29, 30, 31], met: &[], rarer: &[], accepted: true, dear: 1 };
 
 const MOST: usize = 65535;
 

@@ -1,11 +1,24 @@
--- `chg_colcon::parse_chg_colcon_payload` meets its contract: counted, and stored only where the words fit. Assumes nothing.
+-- `chg_colcon::parse_chg_colcon_payload` meets its contract: counted, and stored only where the bands are not too many. Assumes nothing.
 use borrow.Author.Needs.{needs}
-use native.Mathlib.Omega.{arith}
 use mathlib.Core.Path.{sym, _∙_}
+use denote.Ref.{now}
+use Prim.Native.Nat.{ℕ, _<_}
+use lib.ListN.{getD}
+use Rattle.bands_model.specs.Bands.{bandsOf}
 use Rattle.bands_model.proofs.Claim.{claimed}
-use Rattle.bands_model.proofs.Loops.{stored-words, stored-short, stored-none}
+use Rattle.bands_model.proofs.Stored.{counted, stored-over, stored-none}
 use Rattle.chg_colcon.proofs.parse_chg_colcon_payload.Statement.{statement}
 use Rattle.chg_colcon.proofs.parse_chg_colcon_payload.Tie as tie
+
+-- where the call starts, and where there is a list of so many words
+abbrev start : tie.After-count-words → tie.Start
+start c = c .before .before
+
+abbrev list : tie.After-n → tie.After-count-words
+list c = c .before .before
+
+bytes : (c : tie.After-count-words) → (i : ℕ) → getD (now (start c .args .payload)) i 0 < 256
+bytes c = λ i. c .before .shared-slice-known .given i .fits
 
 count-words-requires : tie.Need-count-words-requires
 count-words-requires c κs = search needs
@@ -13,37 +26,27 @@ count-words-requires c κs = search needs
 enum-known-n : tie.Need-enum-known-n
 enum-known-n c = search needs
 
-sub-if2 : tie.Need-sub-if2
-sub-if2 c = search needs
-
-read-list-requires : tie.Need-read-list-requires
-read-list-requires c κs = search needs
-
-same-length : tie.Need-same-length
-same-length c = search needs
-
 returns : tie.Need-returns
 returns c =
-    let h = c .before .before .before .before .if2 .taken in
-    let k = c .before .before .before .before .before .if1 .taken in
-    claimed (stored-words _ _ _ _ _ _ (sym (c .before .before .before .before .before .before .before .before .before .count-words .ensures) ∙ c .before .before .before .before .before .before .before .n .given .1) (omega arith) (c .before .before .read-list .ensures))
+    let n = c .before .before in
+    claimed (bytes (list n)) (stored-over _ _ (bytes (list n)) _ (sym (list n .count-words .ensures) ∙ n .n .given .1) (c .if1 .taken))
+
+put-bands-requires : tie.Need-put-bands-requires
+put-bands-requires c κs =
+    let n = c .before .before .before in
+    let k = counted (bandsOf (now (start (list n) .args .payload))) _ (sym (list n .count-words .ensures) ∙ n .n .given .1) in
+    (k .0, sym (k .1), c .before .if1 .left)
 
 enum-known-number : tie.Need-enum-known-number
 enum-known-number c = search needs
 
 returns-2 : tie.Need-returns-2
-returns-2 c =
-    let h = c .if2 .left in
-    let k = c .before .if1 .taken in
-    claimed (stored-short _ _ _ _ (sym (c .before .before .before .before .before .count-words .ensures) ∙ c .before .before .before .n .given .1) (omega arith))
+returns-2 c = claimed (bytes (list (c .before .before .before .before))) (c .put-bands .ensures)
 
 returns-3 : tie.Need-returns-3
 returns-3 c =
-    let h = c .if1 .left in
-    claimed (stored-short _ _ _ _ (sym (c .before .before .before .before .count-words .ensures) ∙ c .before .before .n .given .1) (omega arith))
-
-returns-4 : tie.Need-returns-4
-returns-4 c = claimed (stored-none _ _ _ _ (sym (c .before .before .before .count-words .ensures) ∙ c .before .number .given .1))
+    let m = c .before .before .before in
+    claimed (bytes m) (stored-none _ _ _ (sym (m .count-words .ensures) ∙ c .before .number .given .1))
 
 pub parse-chg-colcon-payload-spec : {M : Type 1} → statement M
 parse-chg-colcon-payload-spec =
@@ -51,11 +54,8 @@ parse-chg-colcon-payload-spec =
     (tie.spec
     count-words-requires
     enum-known-n
-    sub-if2
-    read-list-requires
-    same-length
     returns
+    put-bands-requires
     enum-known-number
     returns-2
-    returns-3
-    returns-4)
+    returns-3)

@@ -9,25 +9,19 @@ array-borrow-prefix-scratch : tie.Need-array-borrow-prefix-scratch
 array-borrow-prefix-scratch c = search needs
 
 slice-aggregate-canvas : tie.Need-slice-aggregate-canvas
-slice-aggregate-canvas c = sym (length-take-le _ _ (c .before .before .before .before .if1 .taken))
+slice-aggregate-canvas c = sym (length-take-le _ _ (c .before .before .before .if1 .taken))
 
 array-borrow-prefix-map : tie.Need-array-borrow-prefix-map
 array-borrow-prefix-map c = search needs
 
 slice-aggregate-canvas-2 : tie.Need-slice-aggregate-canvas-2
-slice-aggregate-canvas-2 c = sym (length-take-le _ _ (c .before .before .before .before .if2 .taken))
-
-array-borrow-prefix-words : tie.Need-array-borrow-prefix-words
-array-borrow-prefix-words c = search needs
-
-slice-aggregate-canvas-3 : tie.Need-slice-aggregate-canvas-3
-slice-aggregate-canvas-3 c = sym (length-take-le _ _ (c .before .before .before .before .if3 .taken))
+slice-aggregate-canvas-2 c = sym (length-take-le _ _ (c .before .before .before .if2 .taken))
 
 array-borrow-prefix-bytes : tie.Need-array-borrow-prefix-bytes
 array-borrow-prefix-bytes c = search needs
 
-slice-aggregate-canvas-4 : tie.Need-slice-aggregate-canvas-4
-slice-aggregate-canvas-4 c = sym (length-take-le _ _ (c .before .before .before .before .if4 .taken))
+slice-aggregate-canvas-3 : tie.Need-slice-aggregate-canvas-3
+slice-aggregate-canvas-3 c = sym (length-take-le _ _ (c .before .before .before .if3 .taken))
 
 canvas-requires : tie.Need-canvas-requires
 canvas-requires c κs = search needs
@@ -44,9 +38,6 @@ returns-3 c = search needs
 returns-4 : tie.Need-returns-4
 returns-4 c = search needs
 
-returns-5 : tie.Need-returns-5
-returns-5 c = search needs
-
 pub canvas-lent-spec : {M : Type 1} → statement M
 canvas-lent-spec =
     tie.close
@@ -55,13 +46,10 @@ canvas-lent-spec =
     slice-aggregate-canvas
     array-borrow-prefix-map
     slice-aggregate-canvas-2
-    array-borrow-prefix-words
-    slice-aggregate-canvas-3
     array-borrow-prefix-bytes
-    slice-aggregate-canvas-4
+    slice-aggregate-canvas-3
     canvas-requires
     returns
     returns-2
     returns-3
-    returns-4
-    returns-5)
+    returns-4)

@@ -1,31 +1,26 @@
 -- `replay::mixed_words` is safe and ends: the place is within the words. Assumes nothing.
 use borrow.Author.Needs.{needs}
-use native.Mathlib.Omega.{arith}
 use Prim.Native.Nat.{_≤_, _-_}
-use lib.ListN.{length}
 use Rattle.replay.proofs.mixed_words.Statement.{statement}
 use Rattle.replay.proofs.mixed_words.Tie as tie
 
 abbrev Inv-loop : tie.InvT-loop
-Inv-loop sum s t₀ i₀ t i = i ≤ length s
+Inv-loop sum s t₀ i₀ t i = i ≤ 1536
 
 abbrev μ-loop : tie.MeasureT-loop
-μ-loop sum s t₀ i₀ t i = length s - i
+μ-loop sum s t₀ i₀ t i = 1536 - i
 
 loop-holds : tie.Need-loop-holds Inv-loop μ-loop
 loop-holds c = search needs
 
-mul-mixed : tie.Need-mul-mixed Inv-loop μ-loop
-mul-mixed c = search needs
+mul-mixed-word : tie.Need-mul-mixed-word Inv-loop μ-loop
+mul-mixed-word c = search needs
 
-shared-slice-read-mixed : tie.Need-shared-slice-read-mixed Inv-loop μ-loop
-shared-slice-read-mixed c = search needs
+element-copy-out-mixed-word : tie.Need-element-copy-out-mixed-word Inv-loop μ-loop
+element-copy-out-mixed-word c = search needs
 
-cast-mixed : tie.Need-cast-mixed Inv-loop μ-loop
-cast-mixed c = omega (arith, c .shared-slice-known2 .given (c .before .before .loop .i))
-
-mixed-requires : tie.Need-mixed-requires Inv-loop μ-loop
-mixed-requires c κs = search needs
+mixed-word-requires : tie.Need-mixed-word-requires Inv-loop μ-loop
+mixed-word-requires c κs = search needs
 
 add-i : tie.Need-add-i Inv-loop μ-loop
 add-i c = search needs
@@ -46,10 +41,9 @@ mixed-words-spec =
     Inv-loop
     μ-loop
     loop-holds
-    mul-mixed
-    shared-slice-read-mixed
-    cast-mixed
-    mixed-requires
+    mul-mixed-word
+    element-copy-out-mixed-word
+    mixed-word-requires
     add-i
     loop-less
     loop-again

@@ -9,13 +9,7 @@ array-borrow-prefix-map : tie.Need-array-borrow-prefix-map
 array-borrow-prefix-map c = search needs
 
 slice-aggregate-unit : tie.Need-slice-aggregate-unit
-slice-aggregate-unit c = sym (length-take-le _ _ (c .before .before .if1 .taken))
-
-array-borrow-prefix-words : tie.Need-array-borrow-prefix-words
-array-borrow-prefix-words c = search needs
-
-slice-aggregate-unit-2 : tie.Need-slice-aggregate-unit-2
-slice-aggregate-unit-2 c = sym (length-take-le _ _ (c .before .before .if2 .taken))
+slice-aggregate-unit c = sym (length-take-le _ _ (c .before .if1 .taken))
 
 unit-requires : tie.Need-unit-requires
 unit-requires c κs = search needs
@@ -26,18 +20,12 @@ returns c = search needs
 returns-2 : tie.Need-returns-2
 returns-2 c = search needs
 
-returns-3 : tie.Need-returns-3
-returns-3 c = search needs
-
 pub unit-row-spec : {M : Type 1} → statement M
 unit-row-spec =
     tie.close
     (tie.spec
     array-borrow-prefix-map
     slice-aggregate-unit
-    array-borrow-prefix-words
-    slice-aggregate-unit-2
     unit-requires
     returns
-    returns-2
-    returns-3)
+    returns-2)

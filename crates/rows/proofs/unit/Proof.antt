@@ -9,13 +9,7 @@ array-borrow-prefix-map : tie.Need-array-borrow-prefix-map
 array-borrow-prefix-map c = search needs
 
 slice-aggregate-decoded : tie.Need-slice-aggregate-decoded
-slice-aggregate-decoded c = sym (length-take-le _ _ (c .before .before .if1 .taken))
-
-array-borrow-prefix-words : tie.Need-array-borrow-prefix-words
-array-borrow-prefix-words c = search needs
-
-slice-aggregate-decoded-2 : tie.Need-slice-aggregate-decoded-2
-slice-aggregate-decoded-2 c = sym (length-take-le _ _ (c .before .before .if2 .taken))
+slice-aggregate-decoded c = sym (length-take-le _ _ (c .before .if1 .taken))
 
 decoded-requires : tie.Need-decoded-requires
 decoded-requires c κs = search needs
@@ -26,18 +20,12 @@ returns c = search needs
 returns-2 : tie.Need-returns-2
 returns-2 c = search needs
 
-returns-3 : tie.Need-returns-3
-returns-3 c = search needs
-
 pub unit-spec : {M : Type 1} → statement M
 unit-spec =
     tie.close
     (tie.spec
     array-borrow-prefix-map
     slice-aggregate-decoded
-    array-borrow-prefix-words
-    slice-aggregate-decoded-2
     decoded-requires
     returns
-    returns-2
-    returns-3)
+    returns-2)

@@ -1,43 +1,73 @@
--- `spu::decode_told` meets its contract: the lent lengths, then the rows, then the bands. Assumes nothing.
+-- `spu::decode_told` meets its contract: the bands are few, then the lent length, then the rows. Assumes nothing.
 use borrow.Author.Needs.{needs}
 use native.Mathlib.Omega.{arith}
-use Prim.Native.Nat.{_*_, _≤_, _<_}
-use mathlib.Core.Path.{ap, subst, _∙_}
+use Prim.Native.Nat.{ℕ, _*_, _≤_, _<_}
+use mathlib.Core.Path.{_≡_, ap, subst}
 use lib.ListN.{length}
+use denote.Ref.{now}
 use Rattle.grammar.specs.Record.{told, width, height}
+use Rattle.control_model.proofs.Few.{given-refused, given-few}
 use Rattle.spu_model.specs.declared.Layout.{Layout}
-use Rattle.spu_model.proofs.Loops.{area-small, short-map, short-bands, decoded-shows, decoded-stops, needs-words, words-are, is-ok}
+use Rattle.spu_model.proofs.Loops.{bands-asked, area-small, decoded-many, short-map, decoded-shows, decoded-stops}
 use Rattle.spu.proofs.decode_told.Statement.{statement}
 use Rattle.spu.proofs.decode_told.Tie as tie
 
-laid-out-requires : tie.Need-laid-out-requires
-laid-out-requires c κs = search needs
+-- ---- Where the call starts, where the bands are few, where the map is long enough, and where the rows are decoded
 
-mul-if1 : tie.Need-mul-if1
-mul-if1 c = omega (arith, area-small _ _ (c .before .laid-out .ensures .0) (c .before .laid-out .ensures .1))
+abbrev start : tie.After-unit-bands → tie.Start
+start c = c .before .before .before
+
+abbrev banded : tie.Else1 → tie.After-unit-bands
+banded c = c .before .before
+
+abbrev few : tie.After-laid-out → tie.Else1
+few c = c .before
+
+abbrev laid : tie.Else2 → tie.After-laid-out
+laid c = c .before .before
+
+abbrev long : tie.After-decode-rows → tie.Else2
+long c = c .before .before
+
+-- ---- What is known there
+
+sides : (c : tie.After-laid-out) → c .laid-out .result .width * c .laid-out .result .height ≡ width (told (start (banded (few c)) .pre .0)) * height (told (start (banded (few c)) .pre .0))
+sides c = let p = start (banded (few c)) .pre in ap (λ (l : Layout). l .width * l .height) (c .laid-out .ensures .2 (p .0) (p .1))
+
+unit-bands-requires : tie.Need-unit-bands-requires
+unit-bands-requires c κs = bands-asked _ _ (c .before .before .pre)
+
+refusal-requires : tie.Need-refusal-requires
+refusal-requires c κs = search needs
 
 returns : tie.Need-returns
-returns c =
-    let s = c .before .before .before .before .before .before in
-    short-map _ (s .pre .0) (s .pre .1) _ _ (subst (λ n. length (s .args .pixels .now) < n) (ap (λ (l : Layout). l .width * l .height) (c .before .before .laid-out .ensures .2 (s .pre .0) (s .pre .1))) (c .if1 .taken))
+returns c = decoded-many _ _ _ _ (given-refused _ _ (c .before .before .before .unit-bands .ensures) (c .before .if1 .taken)) (c .refusal .ensures)
+
+laid-out-requires : tie.Need-laid-out-requires
+laid-out-requires c κs = start (banded c) .pre
+
+mul-if2 : tie.Need-mul-if2
+mul-if2 c = omega (arith, area-small _ _ (c .before .laid-out .ensures .0) (c .before .laid-out .ensures .1))
+
+refusal-requires-2 : tie.Need-refusal-requires-2
+refusal-requires-2 c κs = search needs
 
 returns-2 : tie.Need-returns-2
 returns-2 c =
-    let s = c .before .before .before .before .before .before .before .before in
-    short-bands _ (s .pre .0) (s .pre .1) _ _ (subst (λ n. n ≤ length (s .args .pixels .now)) (ap (λ (l : Layout). l .width * l .height) (c .before .before .before .before .laid-out .ensures .2 (s .pre .0) (s .pre .1))) (c .before .before .if1 .left)) (subst (λ n. length (s .args .words .now) < n) (needs-words _ _ (s .pre .2)) (c .if2 .taken))
+    let l = c .before .before .before in
+    let f = few l in
+    let p = start (banded f) .pre in
+    short-map _ (p .0) (given-few _ _ (banded f .unit-bands .ensures) (p .0) (p .1) (f .if1 .left) .0) _ _
+    (subst (λ (n : ℕ). length (now (start (banded f) .args .pixels)) < n) (sides l) (c .before .if2 .taken)) (c .refusal2 .ensures)
+
+fits : (c : tie.Else2) → width (told (start (banded (few (laid c))) .pre .0)) * height (told (start (banded (few (laid c))) .pre .0)) ≤ length (now (start (banded (few (laid c))) .args .pixels))
+fits c = subst (λ (n : ℕ). n ≤ length (now (start (banded (few (laid c))) .args .pixels))) (sides (laid c)) (c .if2 .left)
 
 decode-rows-requires : tie.Need-decode-rows-requires
-decode-rows-requires c κs =
-    let s = c .before .before .before .before .before .before .before .before .before in
-    (s .pre .0, s .pre .1, s .pre .2, (subst (λ n. n ≤ length (s .args .pixels .now)) (ap (λ (l : Layout). l .width * l .height) (c .before .before .before .before .before .laid-out .ensures .2 (s .pre .0) (s .pre .1))) (c .before .before .before .if1 .left)))
+decode-rows-requires c κs = let p = start (banded (few (laid (c .before)))) .pre in (p .0, p .1, p .2, fits (c .before))
 
 enum-known-counts : tie.Need-enum-known-counts
 enum-known-counts c = search needs
-
-store-bands-requires : tie.Need-store-bands-requires
-store-bands-requires c κs =
-    let s = c .before .before .before .before .before .before .before .before .before .before .before .before .before .before .before .before in
-    (is-ok _ _ (s .pre .1), needs-words _ _ (s .pre .2) ∙ words-are _ _ (s .pre .1), c .before .before .before .before .before .before .before .before .if2 .left)
 
 with-counts-requires : tie.Need-with-counts-requires
 with-counts-requires c κs = search needs
@@ -45,42 +75,51 @@ with-counts-requires c κs = search needs
 enum-known-number : tie.Need-enum-known-number
 enum-known-number c = search needs
 
+refusal-requires-3 : tie.Need-refusal-requires-3
+refusal-requires-3 c κs = search needs
+
 same-length : tie.Need-same-length
 same-length c = search needs
+
+returns-3 : tie.Need-returns-3
+returns-3 c =
+    let d = c .before .before .before .before .before .before .before in
+    let l = long d in
+    let f = few (laid l) in
+    let p = start (banded f) .pre in
+    let g = given-few _ _ (banded f .unit-bands .ensures) (p .0) (p .1) (f .if1 .left) in
+    decoded-shows _ (p .0) (g .0) _ (fits l) _ _ _ _ _ (c .before .before .before .counts .given .1) (d .decode-rows .ensures (p .0) (p .1)) (g .1)
+    (c .with-counts .ensures (told (p .0)) (p .2))
 
 same-length-2 : tie.Need-same-length-2
 same-length-2 c = search needs
 
-returns-3 : tie.Need-returns-3
-returns-3 c =
-    let bs = c .before .before .before .before .before .before .before .before .before .before .before .before .before .before .before .before .before .before .before .before .pre .0 in
-    let e = c .before .before .before .before .before .before .before .before .before .before .before .before .before .before .before .before .before .before .before .before .pre .1 in
-    decoded-shows _ bs e _ _ (subst (λ n. n ≤ length (c .before .before .before .before .before .before .before .before .before .before .before .before .before .before .before .before .before .before .before .before .args .pixels .now)) (ap (λ (l : Layout). l .width * l .height) (c .before .before .before .before .before .before .before .before .before .before .before .before .before .before .before .before .laid-out .ensures .2 (c .before .before .before .before .before .before .before .before .before .before .before .before .before .before .before .before .before .before .before .before .pre .0) (c .before .before .before .before .before .before .before .before .before .before .before .before .before .before .before .before .before .before .before .before .pre .1))) (c .before .before .before .before .before .before .before .before .before .before .before .before .before .before .if1 .left)) (subst (λ n. n ≤ length (c .before .before .before .before .before .before .before .before .before .before .before .before .before .before .before .before .before .before .before .before .args .words .now)) (needs-words _ _ (c .before .before .before .before .before .before .before .before .before .before .before .before .before .before .before .before .before .before .before .before .pre .2)) (c .before .before .before .before .before .before .before .before .before .before .before .before .if2 .left)) _ _ _ _ _ (c .before .before .before .before .before .before .counts .given .1) (c .before .before .before .before .before .before .before .before .before .before .decode-rows .ensures bs e) (c .before .before .before .store-bands .ensures) (c .with-counts .ensures (told bs) (c .before .before .before .before .before .before .before .before .before .before .before .before .before .before .before .before .before .before .before .before .pre .2))
-
-same-length-3 : tie.Need-same-length-3
-same-length-3 c = search needs
-
 returns-4 : tie.Need-returns-4
 returns-4 c =
-    let bs = c .before .before .before .before .before .before .before .before .before .before .before .before .before .before .before .pre .0 in
-    let e = c .before .before .before .before .before .before .before .before .before .before .before .before .before .before .before .pre .1 in
-    decoded-stops _ bs e _ _ (subst (λ n. n ≤ length (c .before .before .before .before .before .before .before .before .before .before .before .before .before .before .before .args .pixels .now)) (ap (λ (l : Layout). l .width * l .height) (c .before .before .before .before .before .before .before .before .before .before .before .laid-out .ensures .2 (c .before .before .before .before .before .before .before .before .before .before .before .before .before .before .before .pre .0) (c .before .before .before .before .before .before .before .before .before .before .before .before .before .before .before .pre .1))) (c .before .before .before .before .before .before .before .before .before .if1 .left)) (subst (λ n. n ≤ length (c .before .before .before .before .before .before .before .before .before .before .before .before .before .before .before .args .words .now)) (needs-words _ _ (c .before .before .before .before .before .before .before .before .before .before .before .before .before .before .before .pre .2)) (c .before .before .before .before .before .before .before .if2 .left)) _ _ _ (c .before .number .given .1) (c .before .before .before .before .before .decode-rows .ensures bs e)
+    let d = c .before .before .before .before .before .before in
+    let l = long d in
+    let f = few (laid l) in
+    let p = start (banded f) .pre in
+    let g = given-few _ _ (banded f .unit-bands .ensures) (p .0) (p .1) (f .if1 .left) in
+    decoded-stops _ (p .0) (g .0) _ (fits l) _ _ _ _ (c .before .before .number .given .1) (d .decode-rows .ensures (p .0) (p .1)) (c .refusal3 .ensures)
 
 pub decode-told-spec : {M : Type 1} → statement M
 decode-told-spec =
     tie.close
     (tie.spec
-    laid-out-requires
-    mul-if1
+    unit-bands-requires
+    refusal-requires
     returns
+    laid-out-requires
+    mul-if2
+    refusal-requires-2
     returns-2
     decode-rows-requires
     enum-known-counts
-    store-bands-requires
     with-counts-requires
     enum-known-number
+    refusal-requires-3
     same-length
-    same-length-2
     returns-3
-    same-length-3
+    same-length-2
     returns-4)

@@ -11,16 +11,16 @@ use Rattle.vobsub.proofs.decode_cue.Tie as tie
 -- ---- Where the call starts, where its cue is there, and where its unit is found, bare or joined
 
 abbrev start : tie.After-pick-cue → tie.Start
-start c = c .before .before .before .before .before .before .before
+start c = c .before .before .before .before .before .before
 
 abbrev there : tie.After-extract-spu → tie.Else1
 there c = c .before .before
 
 abbrev bare : tie.After-paint-found → tie.After-n
-bare c = c .before .before .before .before .before .before
+bare c = c .before .before .before .before .before
 
 abbrev joined : tie.After-paint-found2 → tie.After-n2
-joined c = c .before .before .before .before .before .before
+joined c = c .before .before .before .before .before
 
 abbrev found : tie.After-n → tie.After-extract-spu
 found c = c .before .before .before .before
@@ -41,7 +41,7 @@ returns c =
     let p = c .before .before .before in
     let a = start p .args in
     kept _ _ _ _ _ _
-    (cue-refused (a .text .now) (a .file .now) (a .cue) (a .stream) (a .scratch .now) (a .pixels .now) (a .words .now) (a .canvas .now) _
+    (cue-refused (a .text .now) (a .file .now) (a .cue) (a .stream) (a .scratch .now) (a .pixels .now) (a .canvas .now) _
     (p .pick-cue .ensures .0) (c .before .if1 .taken) _ (c .first-refusal .ensures))
 
 extract-spu-requires : tie.Need-extract-spu-requires
@@ -76,15 +76,15 @@ same-length-4 c = search needs
 
 returns-2 : tie.Need-returns-2
 returns-2 c =
-    let f = c .before .before .before .before .before .before in
+    let f = c .before .before .before .before in
     let n = bare f in
     let u = found n in
     let p = there u .before .before in
     let a = start p .args in
     kept _ _ _ _ _ _
-    (unit-some (a .text .now) (a .file .now) (a .cue) (a .stream) (a .scratch .now) (a .pixels .now) (a .words .now) (a .canvas .now) _
+    (unit-some (a .text .now) (a .file .now) (a .cue) (a .stream) (a .scratch .now) (a .pixels .now) (a .canvas .now) _
     (p .pick-cue .ensures .0) (there u .if1 .left) _ _ (named (n .n .given .1) (u .extract-spu .ensures .0))
-    (λ m q. let z : _≡_ {A = ℕ} 0 1 = cc in omega arith) _ _ _ _ (f .paint-found .ensures))
+    (λ m q. let z : _≡_ {A = ℕ} 0 1 = cc in omega arith) _ _ _ (f .paint-found .ensures))
 
 same-length-5 : tie.Need-same-length-5
 same-length-5 c = search needs
@@ -95,23 +95,17 @@ same-length-6 c = search needs
 same-length-7 : tie.Need-same-length-7
 same-length-7 c = search needs
 
-same-length-8 : tie.Need-same-length-8
-same-length-8 c = search needs
-
 returns-3 : tie.Need-returns-3
 returns-3 c =
-    let f = c .before .before .before .before .before .before in
+    let f = c .before .before .before .before in
     let n = joined f in
     let u = found2 n in
     let p = there u .before .before in
     let a = start p .args in
     kept _ _ _ _ _ _
-    (unit-some (a .text .now) (a .file .now) (a .cue) (a .stream) (a .scratch .now) (a .pixels .now) (a .words .now) (a .canvas .now) _
+    (unit-some (a .text .now) (a .file .now) (a .cue) (a .stream) (a .scratch .now) (a .pixels .now) (a .canvas .now) _
     (p .pick-cue .ensures .0) (there u .if1 .left) _ _ (named (n .n2 .given .1) (u .extract-spu .ensures .0))
-    (λ m q. let z : _≡_ {A = ℕ} 0 1 = cc in omega arith) _ _ _ _ (f .paint-found2 .ensures))
-
-same-length-9 : tie.Need-same-length-9
-same-length-9 c = search needs
+    (λ m q. let z : _≡_ {A = ℕ} 0 1 = cc in omega arith) _ _ _ (f .paint-found2 .ensures))
 
 returns-4 : tie.Need-returns-4
 returns-4 c =
@@ -119,7 +113,7 @@ returns-4 c =
     let p = there u .before .before in
     let a = start p .args in
     kept _ _ _ _ _ _
-    (unit-none (a .text .now) (a .file .now) (a .cue) (a .stream) (a .scratch .now) (a .pixels .now) (a .words .now) (a .canvas .now) _
+    (unit-none (a .text .now) (a .file .now) (a .cue) (a .stream) (a .scratch .now) (a .pixels .now) (a .canvas .now) _
     (p .pick-cue .ensures .0) (there u .if1 .left) _ _ _ (u .extract-spu .ensures .0) (c .before .number .given .1))
 
 pub decode-cue-spec : {M : Type 1} → statement M
@@ -138,12 +132,10 @@ decode-cue-spec =
     same-length
     same-length-2
     same-length-3
-    same-length-4
     returns-2
+    same-length-4
     same-length-5
     same-length-6
-    same-length-7
-    same-length-8
     returns-3
-    same-length-9
+    same-length-7
     returns-4)

@@ -5,7 +5,7 @@ use Rattle.vobsub.proofs.paint_found.Statement.{statement}
 use Rattle.vobsub.proofs.paint_found.Tie as tie
 
 abbrev bytes : tie.After-paint-unit → tie.After-unit-part
-bytes c = c .before .before .before .before
+bytes c = c .before .before .before
 
 unit-part-requires : tie.Need-unit-part-requires
 unit-part-requires c κs = search needs
@@ -19,14 +19,11 @@ same-length c = search needs
 same-length-2 : tie.Need-same-length-2
 same-length-2 c = search needs
 
-same-length-3 : tie.Need-same-length-3
-same-length-3 c = search needs
-
 returns : tie.Need-returns
 returns c =
-    let p = c .before .before .before .before .before .before in
-    found-painted _ _ _ _ _ _ _ _ _ _ (bytes p .unit-part .ensures) (p .paint-unit .ensures)
+    let p = c .before .before .before .before in
+    found-painted _ _ _ _ _ _ _ _ (bytes p .unit-part .ensures) (p .paint-unit .ensures)
 
 pub paint-found-spec : {M : Type 1} → statement M
 paint-found-spec =
-    tie.close (tie.spec unit-part-requires paint-unit-requires same-length same-length-2 same-length-3 returns)
+    tie.close (tie.spec unit-part-requires paint-unit-requires same-length same-length-2 returns)

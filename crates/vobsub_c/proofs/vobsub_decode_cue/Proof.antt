@@ -31,7 +31,6 @@ given t f w b b′ zs zs′ ns ns′ a d e q x k h =
       told = h′;
       in-scratch = q .in-scratch;
       in-pixels = q .in-pixels;
-      in-words = q .in-words;
       in-canvas = q .in-canvas;
       exactly = subst (λ (o : CanvasAnswer). Exactly t f w b o b′) (q .answer) x;
       reading-told = told-reading t f w b zs zs′ ns ns′ k′ h′;
@@ -40,10 +39,10 @@ given t f w b b′ zs zs′ ns ns′ a d e q x k h =
 -- ---- Where the call has answered
 
 abbrev called : tie.After-s → tie.After-decode-cue
-called c = c .before .before .before .before .before .before .before .before .before .before
+called c = c .before .before .before .before .before .before .before .before
 
 abbrev refused : tie.After-number → tie.After-decode-cue
-refused c = c .before .before .before .before .before .before .before .before .before .before
+refused c = c .before .before .before .before .before .before .before .before
 
 decode-cue-requires : tie.Need-decode-cue-requires
 decode-cue-requires c κs = search needs
@@ -69,26 +68,20 @@ same-length-2 c = search needs
 same-length-3 : tie.Need-same-length-3
 same-length-3 c = search needs
 
-same-length-4 : tie.Need-same-length-4
-same-length-4 c = search needs
-
 returns : tie.Need-returns
 returns c =
     let s = c .before .before .before in
     given _ _ _ _ _ _ _ _ _ _ _ (s .s .given .1) (called s .decode-cue .ensures .0) (called s .decode-cue .ensures .1)
     (c .before .shown-times-of .ensures) (c .shown-numbers-of .ensures)
 
+same-length-4 : tie.Need-same-length-4
+same-length-4 c = search needs
+
 same-length-5 : tie.Need-same-length-5
 same-length-5 c = search needs
 
 same-length-6 : tie.Need-same-length-6
 same-length-6 c = search needs
-
-same-length-7 : tie.Need-same-length-7
-same-length-7 c = search needs
-
-same-length-8 : tie.Need-same-length-8
-same-length-8 c = search needs
 
 returns-2 : tie.Need-returns-2
 returns-2 c =
@@ -107,10 +100,8 @@ vobsub-decode-cue-spec =
     same-length
     same-length-2
     same-length-3
-    same-length-4
     returns
+    same-length-4
     same-length-5
     same-length-6
-    same-length-7
-    same-length-8
     returns-2)

@@ -1,62 +1,78 @@
--- `vobsub_c::vobsub_parse_and_decode_spu` meets its contract: the answer of the layer, taken apart. Assumes nothing.
+-- `vobsub_c::vobsub_parse_and_decode_spu` meets its contract: the record of the layer, taken apart by its refusal. Assumes nothing.
 use Prim.Native.Nat.{ℕ}
 use mathlib.Core.Path.{_≡_, refl, sym, ap, _∙_}
+use mathlib.Core.Bool.{Bool, cond}
 use mathlib.Core.List.{List}
 use borrow.Author.Needs.{needs}
+use borrow.Author.Tests.{eq-eqb, ne-eqb}
 use Rattle.spu_model.specs.Answers.{Decoded}
-use Rattle.spu_model.specs.declared.SpuAnswer.{SpuAnswer}
-use Rattle.vobsub_c.specs.Answers.{spuRefusal, spuRecord, UnitDecoded}
-use Rattle.vobsub_c.proofs.Returned.{spu-returned}
+use Rattle.spu_model.specs.Claim.{Says}
+use Rattle.spu_model.specs.declared.Record.{Record}
+use Rattle.vobsub_numbers.specs.Numbers.{spuNumbers}
+use Rattle.vobsub_c.specs.Answers.{recordNumbers, recordBands, UnitDecoded}
+use Rattle.vobsub_c.proofs.Returned.{record-returned}
 use Rattle.vobsub_c.proofs.vobsub_parse_and_decode_spu.Statement.{statement}
 use Rattle.vobsub_c.proofs.vobsub_parse_and_decode_spu.Tie as tie
 
--- what is left where the layer's answer is known, and the numbers are its record's
-given : (u px ws px′ ws′ ns ns′ : List ℕ) (a b : SpuAnswer) → a ≡ b → Decoded u px ws a px′ ws′ → ns′ ≡ spuRecord b ns → UnitDecoded u px ws ns (spuRefusal b) px′ ws′ ns′
-given u px ws px′ ws′ ns ns′ a b e q n =
-    let h = sym e ∙ q .answer in
-    record { refusal = ap spuRefusal h; returned = spu-returned _ _ _ _ (ap spuRefusal h); told = n ∙ ap (λ (o : SpuAnswer). spuRecord o ns) h; paints = q .pixels; stores = q .words }
+module _ (u px px′ ws ns : List ℕ) (a : Record) (q : Decoded u px a px′) (s : Says u px px′ a) where
+  -- what is left where nothing is refused
+  accepted : a .refused ≡ 0 → (ns′ : List ℕ) → ns′ ≡ spuNumbers (a .spu) → UnitDecoded u px ws ns 0 px′ (a .bands) ns′
+  accepted z ns′ n =
+      let y = eq-eqb (a .refused) 0 z in
+      let r = sym z ∙ ap (λ (o : Record). o .refused) (q .answer) in
+      record {
+        refusal = r;
+        returned = record-returned _ _ 0 r;
+        told = n ∙ sym (ap (λ (b : Bool). cond b (spuNumbers (a .spu)) ns) y) ∙ ap (λ (o : Record). recordNumbers o ns) (q .answer);
+        paints = q .pixels;
+        stores = sym (ap (λ (b : Bool). cond b (a .bands) ws) y) ∙ ap (λ (o : Record). recordBands o ws) (q .answer);
+        as-found = λ h. absurd (h refl);
+      }
+
+  -- and on a refusal
+  declined : (a .refused ≡ 0 → ⊥) → UnitDecoded u px ws ns (a .refused) px′ ws ns
+  declined z =
+      let y = ne-eqb (a .refused) 0 z in
+      let r = ap (λ (o : Record). o .refused) (q .answer) in
+      record {
+        refusal = r;
+        returned = record-returned _ _ (a .refused) r;
+        told = sym (ap (λ (b : Bool). cond b (spuNumbers (a .spu)) ns) y) ∙ ap (λ (o : Record). recordNumbers o ns) (q .answer);
+        paints = q .pixels;
+        stores = sym (ap (λ (b : Bool). cond b (a .bands) ws) y) ∙ ap (λ (o : Record). recordBands o ws) (q .answer);
+        as-found = λ h. (s .as-found z, refl, refl);
+      }
 
 parse-and-decode-spu-requires : tie.Need-parse-and-decode-spu-requires
 parse-and-decode-spu-requires c κs = search needs
 
-enum-known-s : tie.Need-enum-known-s
-enum-known-s c = search needs
-
 numbers-of-requires : tie.Need-numbers-of-requires
 numbers-of-requires c κs = search needs
-
-enum-known-number : tie.Need-enum-known-number
-enum-known-number c = search needs
 
 same-length : tie.Need-same-length
 same-length c = search needs
 
+returns : tie.Need-returns
+returns c =
+    let i = c .before .before in
+    let r = i .before .before .before .before .parse-and-decode-spu in
+    accepted _ _ _ _ _ _ (r .ensures .0) (r .ensures .1) (i .if1 .taken) _ (c .numbers-of .ensures)
+
 same-length-2 : tie.Need-same-length-2
 same-length-2 c = search needs
 
-returns : tie.Need-returns
-returns c = given _ _ _ _ _ _ _ _ _ (c .before .before .s .given .1) (c .before .before .before .before .before .before .before .before .parse-and-decode-spu .ensures .0) (c .numbers-of .ensures)
-
-same-length-3 : tie.Need-same-length-3
-same-length-3 c = search needs
-
-same-length-4 : tie.Need-same-length-4
-same-length-4 c = search needs
-
 returns-2 : tie.Need-returns-2
-returns-2 c = given _ _ _ _ _ _ _ _ _ (c .before .number .given .1) (c .before .before .before .before .before .before .before .parse-and-decode-spu .ensures .0) refl
+returns-2 c =
+    let r = c .before .before .before .before .parse-and-decode-spu in
+    declined _ _ _ _ _ _ (r .ensures .0) (r .ensures .1) (c .if1 .left)
 
 pub vobsub-parse-and-decode-spu-spec : {M : Type 1} → statement M
 vobsub-parse-and-decode-spu-spec =
     tie.close
     (tie.spec
     parse-and-decode-spu-requires
-    enum-known-s
     numbers-of-requires
-    enum-known-number
     same-length
-    same-length-2
     returns
-    same-length-3
-    same-length-4
+    same-length-2
     returns-2)
