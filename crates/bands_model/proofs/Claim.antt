@@ -29,7 +29,8 @@ words-of s bs h = words-listed s (bandWords bs) (record { bands = bs; is = h; wo
 held-of : (s : List ℕ) (bs : List Band) → PayloadBands s bs → bandsHeld (bandWords bs) ≡ length bs
 held-of s bs h = bands-held bs (bands-counted s (length s) 0 bs h)
 
-pub claim : (s : List ℕ) → ((i : ℕ) → byte s i < 256) → (ws : List ℕ) (r : BandAnswer) (ws′ : List ℕ) → Stored s ws r ws′ → Says s ws ws′ r
+pub claim : (s : List ℕ) → ((i : ℕ) → byte s i < 256) → (ws : List ℕ) (r : BandAnswer) (ws′ : List ℕ)
+    → Stored s ws r ws′ → Says s ws ws′ r
 unfolding stored
 claim s small ws r ws′ d = go (bandsOf s) refl
   where
@@ -59,7 +60,8 @@ claim s small ws r ws′ d = go (bandsOf s) refl
             omega arith
 
 -- 34 exactly where more than 32 bands are listed
-pub payload-many : (s : List ℕ) → ((i : ℕ) → byte s i < 256) → (ws : List ℕ) (r : BandAnswer) (ws′ : List ℕ) → Stored s ws r ws′
+pub payload-many : (s : List ℕ) → ((i : ℕ) → byte s i < 256) → (ws : List ℕ) (r : BandAnswer) (ws′ : List ℕ)
+    → Stored s ws r ws′
     → (r ≡ band-answer.Refused many-bands) ↔ TooMany s
 payload-many s small ws r ws′ d = (λ e. many r e (claim s small ws r ws′ d), λ t. refused r (claim s small ws r ws′ d) t)
   where
@@ -74,5 +76,6 @@ payload-many s small ws r ws′ d = (λ e. many r e (claim s small ws r ws′ d)
     refused (band-answer.Refused k) c t = ⊎-elim (λ h. absurd (h .1 (t .0) (t .1))) (λ h. ap band-answer.Refused (h .0)) (c .1)
 
 -- the equation with the claim, as the contract has both
-pub claimed : {s : List ℕ} → ((i : ℕ) → byte s i < 256) → {ws : List ℕ} {r : BandAnswer} {ws′ : List ℕ} → Stored s ws r ws′ → Stored s ws r ws′ × Says s ws ws′ r
+pub claimed : {s : List ℕ} → ((i : ℕ) → byte s i < 256) → {ws : List ℕ} {r : BandAnswer} {ws′ : List ℕ}
+    → Stored s ws r ws′ → Stored s ws r ws′ × Says s ws ws′ r
 claimed {s} small {ws} {r} {ws′} d = (d, claim s small ws r ws′ d)

@@ -1,5 +1,5 @@
--- Counting the bands that stored words hold: one turn of the loop, and that words of bands hold as many as are listed; words with 0 after them.
--- Assumes nothing.
+-- Counting the bands that stored words hold: one turn of the loop, and that words of bands hold as many as are listed;
+-- words with 0 after them. Assumes nothing.
 use Prim.Native.Nat.{ℕ, zero, suc, _+_, _-_, _*_, _/_, _≤_, _<_, min}
 use native.Mathlib.Omega.{arith}
 use mathlib.Core.Path.{_≡_, refl, ap, sym, _∙_}
@@ -24,7 +24,8 @@ counting-short left (a ∷ b ∷ []) h = refl
 counting-short left (a ∷ b ∷ c ∷ ws) h = absurd (omega arith)
 
 -- n of a band's m entries
-counting-entries : (n m : ℕ) (ws : List ℕ) → n ≤ m → 3 * n ≤ length ws → counting m ws ≡ counting (m - n) (drop (3 * n) ws)
+counting-entries : (n m : ℕ) (ws : List ℕ) → n ≤ m → 3 * n ≤ length ws
+    → counting m ws ≡ counting (m - n) (drop (3 * n) ws)
 unfolding counting
 counting-entries zero m ws h l = let z : m - 0 ≡ m = omega arith in rw z
 counting-entries (suc n) zero ws h l = absurd (omega arith)

@@ -46,7 +46,8 @@ module _ (s ws : List ℕ) where
   unfolding stored
   stored-none k e = go (bandsOf s) refl e
     where
-      go : (g : Res (List ℕ)) → bandsOf s ≡ g → countOf 0 g ≡ band-answer.Refused k → Stored s ws (band-answer.Refused k) ws
+      go : (g : Res (List ℕ)) → bandsOf s ≡ g → countOf 0 g ≡ band-answer.Refused k
+          → Stored s ws (band-answer.Refused k) ws
       go (ok v) q e = let z : _≡_ {A = ℕ} 0 1 = cc in absurd (omega arith)
       go (refuse m) q e = record { answer = rw q (sym e); words = rw q }
 
@@ -55,7 +56,8 @@ module _ (s ws : List ℕ) where
   many v q h = let z = lt-leb (bandsHeld v) most-bands h in record { answer = rw (q, z); words = rw (q, z) }
 
   -- more words than 32 bands can take
-  pub stored-over : ((i : ℕ) → byte s i < 256) → (n : ℕ) → countOf 0 (bandsOf s) ≡ band-answer.Words n → most-words < n → Stored s ws (band-answer.Refused many-bands) ws
+  pub stored-over : ((i : ℕ) → byte s i < 256) → (n : ℕ) → countOf 0 (bandsOf s) ≡ band-answer.Words n
+      → most-words < n → Stored s ws (band-answer.Refused many-bands) ws
   stored-over small n e h =
       let f = found n e in
       let l = listed-words s (f .v) (f .is) in
@@ -82,7 +84,8 @@ module _ (s ws : List ℕ) where
     unfolding stored
     stored-kept h = go (bandsOf s) refl o long filled held
       where
-        go : (g : Res (List ℕ)) → bandsOf s ≡ g → IsOk g → n ≡ length (listed g) → us ≡ padded (listed g) → k ≡ bandsHeld (listed g) → Stored s ws (band-answer.Words n) us
+        go : (g : Res (List ℕ)) → bandsOf s ≡ g → IsOk g → n ≡ length (listed g) → us ≡ padded (listed g)
+            → k ≡ bandsHeld (listed g) → Stored s ws (band-answer.Words n) us
         go (refuse j) q o l f e = absurd o
         go (ok v) q o l f e =
             let z = le-leb (bandsHeld v) most-bands (omega arith) in

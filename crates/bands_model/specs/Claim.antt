@@ -28,6 +28,7 @@ TooMany s = (bs : List Band) × PayloadBands s bs × (most-bands < length bs)
 -- or, where it is 34, that too many are
 abbrev pub Says : List ℕ → List ℕ → List ℕ → BandAnswer → Type 0
 Says s ws ws′ (band-answer.Words n) =
-    (bs : List Band) × PayloadBands s bs × (length bs ≤ most-bands) × (n ≡ length (bandWords bs)) × (ws′ ≡ recordWords bs) × (TooMany s → ⊥)
+    (bs : List Band) × PayloadBands s bs × (length bs ≤ most-bands) × (n ≡ length (bandWords bs))
+    × (ws′ ≡ recordWords bs) × (TooMany s → ⊥)
 Says s ws ws′ (band-answer.Refused k) =
     (ws′ ≡ ws) × (((k ≡ no-band-list) × ((bs : List Band) → PayloadBands s bs → ⊥)) ⊎ ((k ≡ many-bands) × TooMany s))

@@ -1,5 +1,5 @@
--- The final theorems. Each takes what the contract of a function says, an equation for its answer and for the last content of what was lent, and
--- gives what that means in the grammar's words. Assumes nothing.
+-- The final theorems. Each takes what the contract of a function says, an equation for its answer and for the last
+-- content of what was lent, and gives what that means in the grammar's words. Assumes nothing.
 use Prim.Native.Nat.{ℕ, _+_, _*_, _/_, _≤_, _<_, min}
 use mathlib.Core.Path.{_≡_}
 use mathlib.Core.Bool.{Bool, true, false}
@@ -87,13 +87,15 @@ use Rattle.listing_model.proofs.Claim as listing-proof
 -- Whole files (`decode_cue`): a canvas is given exactly where the files have a reading for the cue and the stream and
 -- the buffers are long enough, no files have two readings for one cue and stream, and times, origin, size, the numbers
 -- of codes and of clipped ones and every byte of the canvas are the reading's.
-pub whole-files : (text file : List ℕ) (q : Wanted) (b : Lent) (r : CanvasAnswer) (b′ : Lent) → CuePainted text file q b r b′ → Exactly text file q b r b′
+pub whole-files : (text file : List ℕ) (q : Wanted) (b : Lent) (r : CanvasAnswer) (b′ : Lent)
+    → CuePainted text file q b r b′ → Exactly text file q b r b′
 whole-files text file q b r b′ d = vobsub-proof.claim text file q b r b′ d
 
 -- Clipped codes (`decode_cue`): their number is how many of the codes that the reading lists name a run longer than
 -- what is left of their row; a reading has no more of them than lines, and no more than codes. A clipped code paints
 -- less than its run, and any other that is no fill its whole run.
-pub clipped-codes : (text file : List ℕ) (q : Wanted) (b : Lent) (r : CanvasAnswer) (b′ : Lent) → CuePainted text file q b r b′
+pub clipped-codes : (text file : List ℕ) (q : Wanted) (b : Lent) (r : CanvasAnswer) (b′ : Lent)
+    → CuePainted text file q b r b′
     → (s : Shown) → r ≡ canvas-answer.Paints s → (x : Reading) → IsReading text file q x
     → s .clipped ≡ clippedIn (width (toldBy x)) (x .unit .rows)
 clipped-codes text file q b r b′ d s p x h = vobsub-proof.clipped-codes text file q b r b′ d s p x h
@@ -151,27 +153,33 @@ refused-before-33 = earlier
 -- Other streams (`decode_cue`, `extract_spu`, `cue_line`): a file that differs in packets of other streams alone, among
 -- those walked from the cue's position, gives the same readings, the same answer and the same buffers. Every place has
 -- a walk, so that this speaks of every file and position.
-pub other-streams : (text file : List ℕ) (q : Wanted) (b : Lent) (r : CanvasAnswer) (b′ : Lent) → CuePainted text file q b r b′ → Undisturbed text file q b r b′
+pub other-streams : (text file : List ℕ) (q : Wanted) (b : Lent) (r : CanvasAnswer) (b′ : Lent)
+    → CuePainted text file q b r b′ → Undisturbed text file q b r b′
 other-streams text file q b r b′ d = vobsub-streams.undisturbed text file q b r b′ d
 
-pub other-streams-unit : (f : List ℕ) (p n : ℕ) (s : List ℕ) (r : UnitAnswer) (s′ : List ℕ) → Extracted f p n s r s′ → ps-claim.Undisturbed f p n s r s′
+pub other-streams-unit : (f : List ℕ) (p n : ℕ) (s : List ℕ) (r : UnitAnswer) (s′ : List ℕ) → Extracted f p n s r s′
+    → ps-claim.Undisturbed f p n s r s′
 other-streams-unit f p n s r s′ d = ps-proof.undisturbed f p n s r s′ d
 
-pub other-streams-line : (cs : List Cue) (f : List ℕ) (n : ℕ) (l s : List ℕ) (r : ℕ) (l′ s′ : List ℕ) → listing.Written (cueLine cs f n) l r l′
+pub other-streams-line : (cs : List Cue) (f : List ℕ) (n : ℕ) (l s : List ℕ) (r : ℕ) (l′ s′ : List ℕ)
+    → listing.Written (cueLine cs f n) l r l′
     → s′ ≡ sets s 0 (unitStored (formFor cs f n)) → listing.Undisturbed cs f n l s r l′ s′
 other-streams-line cs f n l s r l′ s′ d e = listing-proof.undisturbed cs f n l s r l′ s′ d e
 
-pub same-walk : (s : ℕ) (f g : List ℕ) (p : ℕ) (ps : List Packet) → Walk (streamId s) f p [] ps → Alike s f g ps → Walk (streamId s) g p [] ps
+pub same-walk : (s : ℕ) (f g : List ℕ) (p : ℕ) (ps : List Packet) → Walk (streamId s) f p [] ps → Alike s f g ps
+    → Walk (streamId s) g p [] ps
 same-walk = walk-same
 
 pub a-walk : (id : ℕ → Bool) (f : List ℕ) (p : ℕ) → (ps : List Packet) × Walk id f p [] ps
 a-walk = walk-there
 
--- Thirty-two bands (`decode_cue`, `parse_and_decode_spu`, `parse_chg_colcon_payload`): no reading has more, and 32 of a unit's bytes take at
--- most 1,536 words, so that a record holds them all, with 0 after them. Where text, cue, stream, position and form are in order, scratch is long
--- enough, and the blocks are listed and give the picture a size, 34 is returned exactly where the blocks have more; so for a unit, and for a
--- payload where its list has more. Nothing is refused with 23.
-pub thirty-two-bands : (text file : List ℕ) (q : Wanted) (x : Reading) → IsReading text file q x → length (toldBy x .bands) ≤ 32
+-- Thirty-two bands (`decode_cue`, `parse_and_decode_spu`, `parse_chg_colcon_payload`): no reading has more, and 32 of
+-- a unit's bytes take at most 1,536 words, so that a record holds them all, with 0 after them. Where text, cue,
+-- stream, position and form are in order, scratch is long enough, and the blocks are listed and give the picture a
+-- size, 34 is returned exactly where the blocks have more; so for a unit, and for a payload where its list has more.
+-- Nothing is refused with 23.
+pub thirty-two-bands : (text file : List ℕ) (q : Wanted) (x : Reading) → IsReading text file q x
+    → length (toldBy x .bands) ≤ 32
 thirty-two-bands text file q x h = h .unit-is .few
 
 pub words-of-32-bands : (u : List ℕ) → ((i : ℕ) → byte u i < 256) → (l : ListedUnit) → IsUnit u l
@@ -186,19 +194,23 @@ pub refused-34 : (text file : List ℕ) (q : Wanted) (b : Lent) (r : CanvasAnswe
     → (r ≡ canvas-answer.Refused many-bands) ↔ (32 < length (told bs .bands))
 refused-34 = many-listed
 
-pub a-unit-34 : (u : List ℕ) (bs : List Block) → IsChain u bs → told bs .at .x1 ≤ told bs .at .x2 → told bs .at .y1 ≤ told bs .at .y2
+pub a-unit-34 : (u : List ℕ) (bs : List Block) → IsChain u bs → told bs .at .x1 ≤ told bs .at .x2
+    → told bs .at .y1 ≤ told bs .at .y2
     → (px : List ℕ) (r : Record) (px′ : List ℕ) → unit.Decoded u px r px′ → (r .refused ≡ many-bands) ↔ (32 < length (told bs .bands))
 a-unit-34 = unit-many
 
-pub a-payload-34 : (s : List ℕ) → ((i : ℕ) → byte s i < 256) → (ws : List ℕ) (r : BandAnswer) (ws′ : List ℕ) → Stored s ws r ws′
+pub a-payload-34 : (s : List ℕ) → ((i : ℕ) → byte s i < 256) → (ws : List ℕ) (r : BandAnswer) (ws′ : List ℕ)
+    → Stored s ws r ws′
     → (r ≡ band-answer.Refused many-bands) ↔ ((bs : List Band) × Bands s (length s) 0 bs × (32 < length bs))
 a-payload-34 = bands-proof.payload-many
 
 pub never-23 : InTable 23 → ⊥
 never-23 = no-23
 
--- A unit (`parse_and_decode_spu`, `measure_spu`): a record is given exactly where the grammar lists the unit and the map is long enough.
-pub a-unit : (u : List ℕ) → ((i : ℕ) → byte u i < 256) → (px : List ℕ) (r : Record) (px′ : List ℕ) → unit.Decoded u px r px′ → unit-claim.Says u px px′ r
+-- A unit (`parse_and_decode_spu`, `measure_spu`): a record is given exactly where the grammar lists the unit and the
+-- map is long enough.
+pub a-unit : (u : List ℕ) → ((i : ℕ) → byte u i < 256) → (px : List ℕ) (r : Record) (px′ : List ℕ)
+    → unit.Decoded u px r px′ → unit-claim.Says u px px′ r
 a-unit u s px r px′ d = unit-proof.claim u s px r px′ d
 
 pub a-unit-measured : (u : List ℕ) (r : SpuAnswer) → r ≡ unit.spuAnswer (unitAt u) → unit-claim.Measures u r
@@ -209,21 +221,26 @@ one-unit = unit-unique
 
 -- A position (`extract_spu`): a unit is found exactly where there is such a stream, the grammar lists a unit of it
 -- there, bare or in packets, and scratch is long enough.
-pub a-position : (f : List ℕ) (p n : ℕ) (s : List ℕ) (r : UnitAnswer) (s′ : List ℕ) → Extracted f p n s r s′ → ps-claim.Says f p n s s′ r
+pub a-position : (f : List ℕ) (p n : ℕ) (s : List ℕ) (r : UnitAnswer) (s′ : List ℕ) → Extracted f p n s r s′
+    → ps-claim.Says f p n s s′ r
 a-position f p n s r s′ d = ps-proof.claim f p n s r s′ d
 
 pub one-position : (id : ℕ → Bool) (f : List ℕ) (p : ℕ) (a b : Form) → IsForm id f p a → IsForm id f p b → a ≡ b
 one-position = form-unique
 
 -- A field (`decode_rle_field`): it is accepted exactly where the grammar lists its rows and the map holds the picture.
-pub a-field : (s : List ℕ) (w h start : ℕ) (px : List ℕ) (r : FieldAnswer) (px′ : List ℕ) → field.Decoded s w h start px r px′ → field-claim.Says s w h start px px′ r
+pub a-field : (s : List ℕ) (w h start : ℕ) (px : List ℕ) (r : FieldAnswer) (px′ : List ℕ)
+    → field.Decoded s w h start px r px′ → field-claim.Says s w h start px px′ r
 a-field s w h start px r px′ d = field-proof.claim s w h start px r px′ d
 
-pub one-field : (u : List ℕ) (e w p : ℕ) (a b : List (List Code)) → length a ≡ length b → FieldRows u e w p a → FieldRows u e w p b → a ≡ b
+pub one-field : (u : List ℕ) (e w p : ℕ) (a b : List (List Code)) → length a ≡ length b → FieldRows u e w p a
+    → FieldRows u e w p b → a ≡ b
 one-field = field-unique
 
--- A payload of colour bands (`parse_chg_colcon_payload`): it is accepted exactly where the grammar lists bands, at most 32.
-pub a-payload : (s : List ℕ) → ((i : ℕ) → byte s i < 256) → (ws : List ℕ) (r : BandAnswer) (ws′ : List ℕ) → Stored s ws r ws′ → bands-claim.Says s ws ws′ r
+-- A payload of colour bands (`parse_chg_colcon_payload`): it is accepted exactly where the grammar lists bands, at
+-- most 32.
+pub a-payload : (s : List ℕ) → ((i : ℕ) → byte s i < 256) → (ws : List ℕ) (r : BandAnswer) (ws′ : List ℕ)
+    → Stored s ws r ws′ → bands-claim.Says s ws ws′ r
 a-payload s h ws r ws′ d = bands-proof.claim s h ws r ws′ d
 
 pub one-payload : (u : List ℕ) (e p : ℕ) (a b : List Band) → Bands u e p a → Bands u e p b → a ≡ b
@@ -328,16 +345,19 @@ pub black-otherwise : (text : List ℕ) (t : ListedText) → IsText text t → (
     → paletteOf t ≡ replicate 48 0
 black-otherwise = bytes-black
 
--- The writer (`build_demo_spu`): for every picture that it accepts the grammar lists the unit with that width, height and map, and reading the
--- unit gives them back, with no clipped code.
-pub a-picture : (w h : ℕ) (px out : List ℕ) (r : DemoAnswer) (out′ : List ℕ) → demo.Written w h px out r out′ → RoundTrips w h px r out′
+-- The writer (`build_demo_spu`): for every picture that it accepts the grammar lists the unit with that width, height
+-- and map, and reading the unit gives them back, with no clipped code.
+pub a-picture : (w h : ℕ) (px out : List ℕ) (r : DemoAnswer) (out′ : List ℕ) → demo.Written w h px out r out′
+    → RoundTrips w h px r out′
 a-picture = demo-proof.claim
 
 -- No code of fewer nibbles than the one that it writes for a run paints just that run, where more of the row is left.
-pub shortest-code : (left n : ℕ) (m : Mark) → 1 ≤ n → n ≤ 255 → n < left → Proper m → painted left m ≡ n → runSize n ≤ m .size
+pub shortest-code : (left n : ℕ) (m : Mark) → 1 ≤ n → n ≤ 255 → n < left → Proper m → painted left m ≡ n
+    → runSize n ≤ m .size
 shortest-code = shortest
 
 -- A line of the list program (`cue_line`): it is not refused exactly where the files have a reading for the cue and
 -- stream 0, and then has its values.
-pub a-line : (cs : List Cue) (f : List ℕ) (n : ℕ) (l l′ : List ℕ) (r : ℕ) → listing.Written (cueLine cs f n) l r l′ → listing.Exactly cs f n l l′
+pub a-line : (cs : List Cue) (f : List ℕ) (n : ℕ) (l l′ : List ℕ) (r : ℕ) → listing.Written (cueLine cs f n) l r l′
+    → listing.Exactly cs f n l l′
 a-line cs f n l l′ r d = listing-proof.claim cs f n l l′ r d

@@ -44,7 +44,8 @@ told-counted u bs h = each-counted (told bs .bands) (of-told (λ (b : Band). len
 
 -- ---- The definition
 
-pub few-iff : (u : List ℕ) (bs : List Block) → (fewAt u ≡ ok bs) ↔ ((controlAt u ≡ ok bs) × (length (told bs .bands) ≤ most-bands))
+pub few-iff : (u : List ℕ) (bs : List Block)
+    → (fewAt u ≡ ok bs) ↔ ((controlAt u ≡ ok bs) × (length (told bs .bands) ≤ most-bands))
 unfolding fewAt
 few-iff u bs = (to, λ h. rw (h .0, le-leb (length (told bs .bands)) most-bands (h .1)))
   where
@@ -55,7 +56,8 @@ few-iff u bs = (to, λ h. rw (h .0, le-leb (length (told bs .bands)) most-bands 
         let q : a .0 ≡ bs = cc (b .1) in
         (a .1 ∙ ap ok q, subst (λ (x : List Block). length (told x .bands) ≤ most-bands) q (leb-true _ _ (b .0)))
 
-pub few-refused : (u : List ℕ) (bs : List Block) → controlAt u ≡ ok bs → most-bands < length (told bs .bands) → fewAt u ≡ refuse many-bands
+pub few-refused : (u : List ℕ) (bs : List Block) → controlAt u ≡ ok bs → most-bands < length (told bs .bands)
+    → fewAt u ≡ refuse many-bands
 unfolding fewAt
 few-refused u bs e h = rw (e, lt-leb (length (told bs .bands)) most-bands h)
 
@@ -83,13 +85,15 @@ module _ (u : List ℕ) (bytes : (i : ℕ) → Fits w8 (byte u i)) (is-ok : IsOk
   words-are : unitWords u ≡ bandWords (told blocks .bands)
   words-are = ap (λ (r : Res (List Block)). bandWords (told (listed r) .bands)) is
 
-  many : most-bands < length (told blocks .bands) → (r : UnitBands) → r .refused ≡ many-bands → r .words ≡ padded [] → r ≡ bandsGiven (fewAt u)
+  many : most-bands < length (told blocks .bands) → (r : UnitBands) → r .refused ≡ many-bands → r .words ≡ padded []
+      → r ≡ bandsGiven (fewAt u)
   many h r e f =
       let p : r ≡ bandsGiven (refuse many-bands) = λ i. record { refused = e i; words = f i } in
       p ∙ ap bandsGiven (sym (few-refused u blocks is h))
 
   -- more words than 32 bands can take
-  pub few-over : most-words < n → (r : UnitBands) → r .refused ≡ many-bands → r .words ≡ padded [] → r ≡ bandsGiven (fewAt u)
+  pub few-over : most-words < n → (r : UnitBands) → r .refused ≡ many-bands → r .words ≡ padded []
+      → r ≡ bandsGiven (fewAt u)
   few-over h =
       let w = unit-words u (λ i. bytes i .fits) blocks (control-chain u blocks is) in
       let l : length (unitWords u) ≡ length (bandWords (told blocks .bands)) = ap length words-are in
@@ -101,7 +105,8 @@ module _ (u : List ℕ) (bytes : (i : ℕ) → Fits w8 (byte u i)) (is-ok : IsOk
         count ∙ ap (λ (x : List ℕ). bandsHeld (take n x)) filled ∙ ap bandsHeld (padded-front (unitWords u) n long few ∙ words-are)
         ∙ bands-held (told blocks .bands) (told-counted u blocks (control-chain u blocks is))
 
-    pub few-many : most-bands < k → (r : UnitBands) → r .refused ≡ many-bands → r .words ≡ padded [] → r ≡ bandsGiven (fewAt u)
+    pub few-many : most-bands < k → (r : UnitBands) → r .refused ≡ many-bands → r .words ≡ padded []
+        → r ≡ bandsGiven (fewAt u)
     few-many l = let c = counted in many (omega arith)
 
     pub few-kept : k ≤ most-bands → record { refused = 0; words = ws } ≡ bandsGiven (fewAt u)
@@ -131,7 +136,8 @@ module _ (u : List ℕ) (b : UnitBands) (e : b ≡ bandsGiven (fewAt u)) where
     pub given-few : (fewAt u ≡ ok bs) × (b .words ≡ padded (bandWords (told bs .bands)))
     given-few = go (fewAt u) refl (few-numbered u) e
       where
-        go : (r : Res (List Block)) → fewAt u ≡ r → Numbered r → b ≡ bandsGiven r → (fewAt u ≡ ok bs) × (b .words ≡ padded (bandWords (told bs .bands)))
+        go : (r : Res (List Block)) → fewAt u ≡ r → Numbered r → b ≡ bandsGiven r
+            → (fewAt u ≡ ok bs) × (b .words ≡ padded (bandWords (told bs .bands)))
         go (ok cs) q n f =
             let s : cs ≡ bs = ok-injective (sym (few-iff u cs .0 q .0) ∙ is) in
             (q ∙ ap ok s, ap (λ (x : UnitBands). x .words) f ∙ ap (λ (x : List Block). padded (bandWords (told x .bands))) s)

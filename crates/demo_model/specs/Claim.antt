@@ -61,7 +61,8 @@ pub record ReadsBack (w h : ℕ) (px : List ℕ) (l : ListedUnit) (map : List �
 pub record RoundTrip (w h : ℕ) (px u : List ℕ) : Type 0 where
   pub list : ListedUnit
   pub lists : Listed w h px u list
-  pub reads : (map : List ℕ) → w * h ≤ length map → (r : Record) (map′ : List ℕ) → Decoded u map r map′ → ReadsBack w h px list map r map′
+  pub reads : (map : List ℕ) → w * h ≤ length map → (r : Record) (map′ : List ℕ) → Decoded u map r map′
+      → ReadsBack w h px list map r map′
 
 -- of every picture that is accepted, with the unit in the front of the output
 abbrev pub RoundTrips : ℕ → ℕ → List ℕ → DemoAnswer → List ℕ → Type 0

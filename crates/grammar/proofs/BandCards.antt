@@ -1,5 +1,5 @@
--- The limit of bands, met exactly and missed by one: a unit of 32 bands passes, and for one of 33 nothing does; and the words of a record with one
--- band. Assumes nothing.
+-- The limit of bands, met exactly and missed by one: a unit of 32 bands passes, and for one of 33 nothing does; and
+-- the words of a record with one band. Assumes nothing.
 use Prim.Native.Nat.{ℕ, zero, suc, _+_, _*_, _<_}
 use native.Mathlib.Omega.{arith}
 use mathlib.Core.Path.{_≡_, refl, sym, ap, _∙_, subst}

@@ -1,5 +1,5 @@
--- What holds of every band that stands in a unit holds of all that its blocks tell; so each has at most 15 entries, and 32 take at most 1,536
--- words. Assumes nothing.
+-- What holds of every band that stands in a unit holds of all that its blocks tell; so each has at most 15 entries,
+-- and 32 take at most 1,536 words. Assumes nothing.
 use Prim.Native.Nat.{ℕ, _+_, _-_, _*_, _≤_, _<_}
 use native.Mathlib.Omega.{arith}
 use mathlib.Core.Path.{_≡_, refl, sym, subst}
@@ -39,7 +39,8 @@ module _ (P : Band → Type 0) (u : List ℕ) (each : (e : ℕ) (b : Band) → I
   of-order p (offsets a b) w = tt
   of-order p (colours s bs) w = of-bands (p + s) (p + 2) bs (w .2)
 
-  of-commands : (L p d : ℕ) (cs : List Command) (rest : List Timed) → Commands u L p cs → Each P (allBands rest) → Each P (allBands (commandsIn d cs rest))
+  of-commands : (L p d : ℕ) (cs : List Command) (rest : List Timed) → Commands u L p cs → Each P (allBands rest)
+      → Each P (allBands (commandsIn d cs rest))
   unfolding Commands commandsIn allBands
   of-commands L p d [] rest w h = h
   of-commands L p d (c ∷ cs) rest w h =
@@ -98,7 +99,8 @@ module _ (u : List ℕ) (small : (i : ℕ) → byte u i < 256) where
   unit-words bs h = words-of (told bs .bands) (of-told Fifteen u (fifteen u small) bs h)
 
   -- no 32 bands of a unit take more than 1,536 words
-  pub most-words-hold : (bs : List Block) → IsChain u bs → length (told bs .bands) ≤ most-bands → length (bandWords (told bs .bands)) ≤ most-words
+  pub most-words-hold : (bs : List Block) → IsChain u bs → length (told bs .bands) ≤ most-bands
+      → length (bandWords (told bs .bands)) ≤ most-words
   most-words-hold bs h k = let w = unit-words bs h in omega arith
 
 -- and so a record holds them all

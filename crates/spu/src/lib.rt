@@ -223,8 +223,8 @@ fn decode_told(unit: &[u8], spu: Spu, pixels: &mut [u8]) -> Record
     }
 }
 
-// A unit's record with its bands in it, and its picture as colour numbers in the front of `pixels`, which is as found on
-// a refusal.
+// A unit's record with its bands in it, and its picture as colour numbers in the front of `pixels`, which is as found
+// on a refusal.
 // Ruled out: rows painted before the last is known to be whole; a row without codes left as found instead of 0.
 pub fn parse_and_decode_spu(unit: &[u8], pixels: &mut [u8]) -> Record
     ensures { λ r. ⌜ Decoded (now (unit .entry)) (now (pixels .entry)) r (now (pixels .exit)) × Says (now (unit .entry)) (now (pixels .entry)) (now (pixels .exit)) r ⌝ }

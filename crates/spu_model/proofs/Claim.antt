@@ -100,10 +100,12 @@ words-recorded : (u : List ℕ) → ((i : ℕ) → byte u i < 256) → (l : List
     → padded (bandWords (told (l .blocks) .bands)) ≡ recordWords (told (l .blocks) .bands)
 words-recorded u small l i = padded-record (told (l .blocks) .bands) (most-words-hold u small (l .blocks) (i .chain) (i .few))
 
-pub claim : (u : List ℕ) → ((i : ℕ) → byte u i < 256) → (px : List ℕ) (r : Record) (px′ : List ℕ) → Decoded u px r px′ → Says u px px′ r
+pub claim : (u : List ℕ) → ((i : ℕ) → byte u i < 256) → (px : List ℕ) (r : Record) (px′ : List ℕ)
+    → Decoded u px r px′ → Says u px px′ r
 claim u small px r px′ d = go (unitIn u (length px)) refl (unit-numbered u (length px)) (d .answer) (d .pixels)
   where
-    go : (x : Res ListedUnit) → unitIn u (length px) ≡ x → Numbered x → r ≡ recordGiven x → px′ ≡ sets px 0 (unitMap x) → Says u px px′ r
+    go : (x : Res ListedUnit) → unitIn u (length px) ≡ x → Numbered x → r ≡ recordGiven x
+        → px′ ≡ sets px 0 (unitMap x) → Says u px px′ r
     go (ok l) q n e f =
         let s = in-sound u (length px) l q in
         let i = unit-iff u l .0 (s .0) in
@@ -138,8 +140,10 @@ measures u r d = go (unitAt u) refl d
     go (refuse n) q e = subst (Measures u) (sym e) (λ l i. ok-not-refuse (sym q ∙ unit-iff u l .1 i))
 
 -- the equation with the claim, as the contract has both
-pub claimed : {u : List ℕ} → ((i : ℕ) → byte u i < 256) → {px : List ℕ} {r : Record} {px′ : List ℕ} → Decoded u px r px′ → Decoded u px r px′ × Says u px px′ r
+pub claimed : {u : List ℕ} → ((i : ℕ) → byte u i < 256) → {px : List ℕ} {r : Record} {px′ : List ℕ}
+    → Decoded u px r px′ → Decoded u px r px′ × Says u px px′ r
 claimed {u} small {px} {r} {px′} d = (d, claim u small px r px′ d)
 
-pub measures-claimed : (u : List ℕ) {r : SpuAnswer} → r ≡ spuAnswer (unitAt u) → (r ≡ spuAnswer (unitAt u)) × Measures u r
+pub measures-claimed : (u : List ℕ) {r : SpuAnswer} → r ≡ spuAnswer (unitAt u)
+    → (r ≡ spuAnswer (unitAt u)) × Measures u r
 measures-claimed u {r} d = (d, measures u r d)

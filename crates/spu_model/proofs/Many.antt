@@ -1,4 +1,5 @@
--- Where the grammar lists a unit's blocks and its picture has a size, 34 is returned exactly where it has more than 32 bands. Assumes nothing.
+-- Where the grammar lists a unit's blocks and its picture has a size, 34 is returned exactly where it has more than 32
+-- bands. Assumes nothing.
 use Prim.Native.Nat.{ℕ, _*_, _≤_, _<_}
 use native.Mathlib.Omega.{arith}
 use mathlib.Core.Path.{_≡_, sym, ap, _∙_}
@@ -38,7 +39,8 @@ module _ (u : List ℕ) (bs : List Block) (chain : IsChain u bs) (wide : told bs
       (check-numbered Other (leb (width (told bs) * height (told bs)) n) short-pixels _ (λ q. omega arith)
       (mapRes-numbered Other (listedUnit bs) (rowsAt u (told bs)) (rows-with Other (λ q. omega arith) (λ q. omega arith) u (told bs))))
 
-  pub unit-many : (px : List ℕ) (r : Record) (px′ : List ℕ) → Decoded u px r px′ → (r .refused ≡ many-bands) ↔ (most-bands < length (told bs .bands))
+  pub unit-many : (px : List ℕ) (r : Record) (px′ : List ℕ) → Decoded u px r px′
+      → (r .refused ≡ many-bands) ↔ (most-bands < length (told bs .bands))
   unfolding unitIn
   unit-many px r px′ d = (λ e. ⊎-elim (λ h. absurd (go (unitIn u (length px)) (others (length px) h) (d .answer) e)) (λ h. h) (le-or-lt (length (told bs .bands)) most-bands), from)
     where

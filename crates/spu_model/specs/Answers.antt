@@ -1,4 +1,5 @@
--- What each answer means, and what the map holds afterwards (FORMAT 3.6, 4.5, 5.8, 5.9). Assumes nothing: these are definitions.
+-- What each answer means, and what the map holds afterwards (FORMAT 3.6, 4.5, 5.8, 5.9). Assumes nothing: these are
+-- definitions.
 use Prim.Native.Nat.{ℕ}
 use mathlib.Core.Path.{_≡_}
 use mathlib.Core.List.{List, []}

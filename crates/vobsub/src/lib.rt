@@ -346,8 +346,8 @@ fn paint_told(
     }
 }
 
-// A unit of the cue c: what is shown, with its map and its canvas in the front of the lent buffers, which are as found on
-// a refusal.
+// A unit of the cue c: what is shown, with its map and its canvas in the front of the lent buffers, which are as found
+// on a refusal.
 // Ruled out: a canvas in the map's place; a canvas of rows that are refused; one of a cue whose times leave.
 fn paint_unit(unit: &[u8], c: CueAnswer, pixels: &mut [u8], canvas: &mut [u8]) -> CanvasAnswer
     ensures { λ r. ⌜ UnitPainted (now (unit .entry)) c (now (pixels .entry)) (now (canvas .entry)) r (now (pixels .exit)) (now (canvas .exit)) ⌝ }

@@ -1,6 +1,6 @@
 -- What the exported functions return and leave, in the words of the layers: the number of a refusal, 0 only where there is none (`returned`), and
 -- the last content of all that was lent. Assumes nothing: these are definitions.
-use Prim.Native.Nat.{ℕ, _*_}
+use Prim.Native.Nat.{ℕ, _*_, _≤_}
 use mathlib.Core.Path.{_≡_}
 use mathlib.Core.List.{List, [], _∷_}
 use mathlib.Core.Logic.{_↔_}
@@ -10,8 +10,13 @@ use lib.Dec.{eqb}
 use lib.IntN.{ℤ}
 use lib.ListN.{length, take}
 use lib.Seq.{sets}
-use Rattle.outcome.specs.Outcome.{Res, ok, refuse, listed, listedBy, refusalOf, Returned}
+use Rattle.outcome.specs.Outcome.{Res, ok, refuse, listed, listedBy, refusalOf, Returned, no-band-list, many-bands}
+use Rattle.grammar.specs.Bands.{Band, bandWords, most-bands, recordWords}
+use Rattle.grammar.specs.Rows.{Code}
+use Rattle.grammar.specs.Pixels.{indexMap, codesIn, clippedIn}
+use Rattle.grammar.specs.Picture.{ListedUnit, IsUnit}
 use Rattle.bands_model.specs.Answers.{countOf, stored, arrayAfter}
+use Rattle.bands_model.specs.Claim.{PayloadBands, TooMany}
 use Rattle.bands_model.specs.declared.BandAnswer.{BandAnswer}
 use Rattle.bands_model.specs.declared.BandAnswer.the-variants as band-answer
 use Rattle.grammar.specs.Index.{ListedText, IsText}
@@ -39,8 +44,9 @@ use Rattle.demo_model.specs.declared.DemoAnswer.{DemoAnswer}
 use Rattle.demo_model.specs.declared.DemoAnswer.the-variants as demo-answer
 use Rattle.spu_model.specs.Unit.{unitIn}
 use Rattle.spu_model.specs.Answers.{recordGiven, unitMap}
+use Rattle.spu_model.specs.Claim.{LongEnough}
 use Rattle.spu_model.specs.declared.Record.{Record}
-use Rattle.grammar.specs.Record.{given}
+use Rattle.grammar.specs.Record.{Told, told, given, delayOf, width}
 use Rattle.grammar.specs.Reading.{Wanted, wantedId, Reading, IsReading, shown}
 use Rattle.clock_model.specs.Answers.{timeOr0}
 use Rattle.vobsub_model.specs.Call.{Lent, foundFor, readingIn}
@@ -60,12 +66,22 @@ abbrev pub bandCount : BandAnswer → ℕ → ℕ
 bandCount (band-answer.Words n) before = n
 bandCount (band-answer.Refused k) before = before
 
+-- what is stored is what is listed of the payload: all words of the array, and how many are used (FORMAT 4.5)
+pub record PayloadTold (bs : List Band) (r : ℕ) (bands : List ℕ) (count : ℕ) : Type 0 where
+  pub accepted : r ≡ 0
+  pub bands-are : bands ≡ recordWords bs
+  pub count-is : count ≡ length (bandWords bs)
+
 pub record BandsGiven (payload bands : List ℕ) (count r : ℕ) (bands′ : List ℕ) (count′ : ℕ) : Type 0 where
   pub refusal : r ≡ bandRefusal (countOf 0 (stored payload))
   pub returned : Returned (stored payload) r
   pub counted : count′ ≡ bandCount (countOf 0 (stored payload)) count
   pub stores : bands′ ≡ arrayAfter bands (stored payload)
   pub as-found : (r ≡ 0 → ⊥) → (bands′ ≡ bands) × (count′ ≡ count)
+  pub payload-told : (bs : List Band) → PayloadBands payload bs → length bs ≤ most-bands
+      → PayloadTold bs r bands′ count′
+  pub too-many : TooMany payload → r ≡ many-bands
+  pub unlisted : ((bs : List Band) → PayloadBands payload bs → ⊥) → r ≡ no-band-list
 
 abbrev pub unitRefusal : UnitAnswer → ℕ
 unitRefusal (unit-answer.Bare n) = 0
@@ -133,12 +149,27 @@ pub record FieldDecoded (field : List ℕ) (w h start : ℕ) (pixels : List ℕ)
   pub clipped-are : clipped′ ≡ fieldNumber (λ n. n .clipped) (fieldAnswer w (decoded field w h start pixels)) clipped
   pub stores : pixels′ ≡ paintField w (start * w) (listed (decoded field w h start pixels)) pixels
 
+-- the numbers of what was told and of its rows, in the order of include/vobsub.h
+abbrev pub toldNumbers : Told → List (List Code) → List ℕ
+toldNumbers t rs =
+    t .at .x1 ∷ t .at .y1 ∷ t .at .x2 ∷ t .at .y2 ∷ t .selected ∷ t .alpha
+    ∷ cond (given (t .starts)) 1 0 ∷ delayOf (t .starts) ∷ cond (given (t .stops)) 1 0 ∷ delayOf (t .stops)
+    ∷ cond (t .forced) 1 0 ∷ t .fields .top ∷ t .fields .bottom ∷ cond (t .changed) 1 0
+    ∷ length (bandWords (t .bands)) ∷ codesIn rs ∷ clippedIn (width t) rs ∷ []
+
 -- the numbers and the bands of a record where nothing is refused, or what was there
 abbrev pub recordNumbers : Record → List ℕ → List ℕ
 recordNumbers a before = cond (eqb (a .refused) 0) (spuNumbers (a .spu)) before
 
 abbrev pub recordBands : Record → List ℕ → List ℕ
 recordBands a before = cond (eqb (a .refused) 0) (a .bands) before
+
+-- what is stored is what is listed of the unit: the map, all words of the array, and each number at its place in
+-- include/vobsub.h (FORMAT 3.6)
+pub record UnitTold (l : ListedUnit) (pixels pixels′ bands numbers : List ℕ) : Type 0 where
+  pub map-is : pixels′ ≡ sets pixels 0 (indexMap (width (told (l .blocks))) (l .rows))
+  pub bands-are : bands ≡ recordWords (told (l .blocks) .bands)
+  pub numbers-are : numbers ≡ toldNumbers (told (l .blocks)) (l .rows)
 
 pub record UnitDecoded (unit pixels bands before : List ℕ) (r : ℕ) (pixels′ bands′ after : List ℕ) : Type 0 where
   pub refusal : r ≡ recordGiven (unitIn unit (length pixels)) .refused
@@ -147,6 +178,9 @@ pub record UnitDecoded (unit pixels bands before : List ℕ) (r : ℕ) (pixels�
   pub paints : pixels′ ≡ sets pixels 0 (unitMap (unitIn unit (length pixels)))
   pub stores : bands′ ≡ recordBands (recordGiven (unitIn unit (length pixels))) bands
   pub as-found : (r ≡ 0 → ⊥) → (pixels′ ≡ pixels) × (bands′ ≡ bands) × (after ≡ before)
+  pub exactly-when : (r ≡ 0) ↔ ((l : ListedUnit) × IsUnit unit l × LongEnough l (length pixels))
+  pub unit-told : (l : ListedUnit) → IsUnit unit l → LongEnough l (length pixels)
+      → UnitTold l pixels pixels′ bands′ after
 
 abbrev pub demoRefusal : DemoAnswer → ℕ
 demoRefusal (demo-answer.Wrote n) = 0

@@ -104,7 +104,8 @@ pub extern "C" fn vobsub_decode_rle_field(
     }
 }
 
-// A unit's picture as colour numbers in the front of `pixels`, its bands as words with 0 after them, and the numbers of its record.
+// A unit's picture as colour numbers in the front of `pixels`, its bands as words with 0 after them, and the numbers of
+// its record.
 // Ruled out: a record stored on a refusal; a unit accepted whose record is left as found.
 #[no_mangle]
 pub extern "C" fn vobsub_parse_and_decode_spu(

@@ -1,5 +1,5 @@
--- Where the grammar lists the text, the cue, its unit's form and blocks, with room in scratch, and the picture has a size, 34 is returned
--- exactly where the unit has more than 32 bands. Assumes nothing.
+-- Where the grammar lists the text, the cue, its unit's form and blocks, with room in scratch, and the picture has a
+-- size, 34 is returned exactly where the unit has more than 32 bands. Assumes nothing.
 use Prim.Native.Nat.{ℕ, _*_, _≤_, _<_}
 use native.Mathlib.Omega.{arith}
 use mathlib.Core.Path.{_≡_, sym, ap, _∙_}

@@ -126,7 +126,8 @@ abbrev pub paintedOf : Res Reading → List ℕ
 paintedOf (ok r) = canvasOf r
 paintedOf (refuse n) = []
 
--- the answer, and what the three buffers hold: on a refusal as found, but for the front of scratch after a unit was joined there
+-- the answer, and what the three buffers hold: on a refusal as found, but for the front of scratch after a unit was
+-- joined there
 pub record CuePainted (text file : List ℕ) (q : Wanted) (b : Lent) (r : CanvasAnswer) (b′ : Lent) : Type 0 where
   pub answer : r ≡ canvasAnswer (readingIn text file q b)
   pub in-scratch : b′ .scratch ≡ sets (b .scratch) 0 (scratchOf (foundFor text file q (length (b .scratch))))

@@ -1,4 +1,5 @@
--- `bands::unit_bands` meets its contract: by the number of words, and then by that of the bands that they hold. Assumes nothing.
+-- `bands::unit_bands` meets its contract: by the number of words, and then by that of the bands that they hold.
+-- Assumes nothing.
 use borrow.Author.Needs.{needs}
 use denote.Ref.{now}
 use Rattle.control_model.specs.Fill.{unitWords}

@@ -1,4 +1,5 @@
--- `chg_colcon::parse_chg_colcon_payload` meets its contract: counted, and stored only where the bands are not too many. Assumes nothing.
+-- `chg_colcon::parse_chg_colcon_payload` meets its contract: counted, and stored only where the bands are not too
+-- many. Assumes nothing.
 use borrow.Author.Needs.{needs}
 use mathlib.Core.Path.{sym, _∙_}
 use denote.Ref.{now}

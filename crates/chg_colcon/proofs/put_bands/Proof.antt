@@ -1,4 +1,5 @@
--- `chg_colcon::put_bands` meets its contract: the words are in an array of its own before they are counted. Assumes nothing.
+-- `chg_colcon::put_bands` meets its contract: the words are in an array of its own before they are counted. Assumes
+-- nothing.
 use borrow.Author.Needs.{needs}
 use denote.Ref.{now}
 use Rattle.outcome.specs.Outcome.{listed}

@@ -31,7 +31,8 @@ long c = c .before .before
 
 -- ---- What is known there
 
-sides : (c : tie.After-laid-out) → c .laid-out .result .width * c .laid-out .result .height ≡ width (told (start (banded (few c)) .pre .0)) * height (told (start (banded (few c)) .pre .0))
+sides : (c : tie.After-laid-out)
+    → c .laid-out .result .width * c .laid-out .result .height ≡ width (told (start (banded (few c)) .pre .0)) * height (told (start (banded (few c)) .pre .0))
 sides c = let p = start (banded (few c)) .pre in ap (λ (l : Layout). l .width * l .height) (c .laid-out .ensures .2 (p .0) (p .1))
 
 unit-bands-requires : tie.Need-unit-bands-requires
@@ -60,7 +61,8 @@ returns-2 c =
     short-map _ (p .0) (given-few _ _ (banded f .unit-bands .ensures) (p .0) (p .1) (f .if1 .left) .0) _ _
     (subst (λ (n : ℕ). length (now (start (banded f) .args .pixels)) < n) (sides l) (c .before .if2 .taken)) (c .refusal2 .ensures)
 
-fits : (c : tie.Else2) → width (told (start (banded (few (laid c))) .pre .0)) * height (told (start (banded (few (laid c))) .pre .0)) ≤ length (now (start (banded (few (laid c))) .args .pixels))
+fits : (c : tie.Else2)
+    → width (told (start (banded (few (laid c))) .pre .0)) * height (told (start (banded (few (laid c))) .pre .0)) ≤ length (now (start (banded (few (laid c))) .args .pixels))
 fits c = subst (λ (n : ℕ). n ≤ length (now (start (banded (few (laid c))) .args .pixels))) (sides (laid c)) (c .if2 .left)
 
 decode-rows-requires : tie.Need-decode-rows-requires

@@ -1,5 +1,5 @@
--- `vobsub::paint_told` meets its contract: the bands are few, then the lent lengths, then the times, then the rows, then the canvas.
--- Assumes nothing.
+-- `vobsub::paint_told` meets its contract: the bands are few, then the lent lengths, then the times, then the rows,
+-- then the canvas. Assumes nothing.
 use Prim.Native.Nat.{ℕ, _+_, _-_, _*_, _≤_, _<_}
 use native.Mathlib.Omega.{arith}
 use mathlib.Core.Path.{_≡_, sym, subst}
@@ -21,7 +21,8 @@ use borrow.Author.Needs.{needs}
 use Rattle.vobsub.proofs.paint_told.Statement.{statement}
 use Rattle.vobsub.proofs.paint_told.Tie as tie
 
--- ---- Where the call starts, where the bands are few, where all is long enough, and where the times are asked for and stay
+-- ---- Where the call starts, where the bands are few, where all is long enough, and where the times are asked for and
+-- stay
 
 abbrev start : tie.After-unit-bands → tie.Start
 start c = c .before .before .before .before
@@ -92,10 +93,12 @@ sides-small s h k = area-small (s .x2 + 1 - s .x1) (s .y2 + 1 - s .y1) (omega ar
 
 -- ---- The lent lengths
 
-wide : (c : tie.Else2) → width (told (of-map c .pre .0)) * height (told (of-map c .pre .0)) ≤ length (now (of-map c .args .pixels))
+wide : (c : tie.Else2)
+    → width (told (of-map c .pre .0)) * height (told (of-map c .pre .0)) ≤ length (now (of-map c .args .pixels))
 wide c = let s = of-map c in lent-map (s .args .spu) (told (s .pre .0)) (s .pre .2) (length (now (s .args .pixels))) .0 (c .if2 .left)
 
-long : (c : tie.Else3) → 4 * (width (told (of-room c .pre .0)) * height (told (of-room c .pre .0))) ≤ length (now (of-room c .args .canvas))
+long : (c : tie.Else3)
+    → 4 * (width (told (of-room c .pre .0)) * height (told (of-room c .pre .0))) ≤ length (now (of-room c .args .canvas))
 long c = let s = of-room c in lent-canvas (s .args .spu) (told (s .pre .0)) (s .pre .2) (length (now (s .args .canvas))) .0 (c .if3 .left)
 
 -- ---- The needs

@@ -11,6 +11,7 @@ use Rattle.spu_model.specs.declared.Record.{Record}
 use Rattle.vobsub_numbers.specs.Numbers.{spuNumbers}
 use Rattle.vobsub_c.specs.Answers.{recordNumbers, recordBands, UnitDecoded}
 use Rattle.vobsub_c.proofs.Returned.{record-returned}
+use Rattle.vobsub_c.proofs.Told.{numbers-told}
 use Rattle.vobsub_c.proofs.vobsub_parse_and_decode_spu.Statement.{statement}
 use Rattle.vobsub_c.proofs.vobsub_parse_and_decode_spu.Tie as tie
 
@@ -27,6 +28,10 @@ module _ (u px px′ ws ns : List ℕ) (a : Record) (q : Decoded u px a px′) (
         paints = q .pixels;
         stores = sym (ap (λ (b : Bool). cond b (a .bands) ws) y) ∙ ap (λ (o : Record). recordBands o ws) (q .answer);
         as-found = λ h. absurd (h refl);
+        exactly-when = (λ h. s .exactly-when .0 z, λ h. refl);
+        unit-told = λ l i o.
+            let g = s .same l i z in
+            record { map-is = g .pixels; bands-are = g .bands; numbers-are = n ∙ numbers-told _ _ _ (g .recorded) };
       }
 
   -- and on a refusal
@@ -41,6 +46,8 @@ module _ (u px px′ ws ns : List ℕ) (a : Record) (q : Decoded u px a px′) (
         paints = q .pixels;
         stores = sym (ap (λ (b : Bool). cond b (a .bands) ws) y) ∙ ap (λ (o : Record). recordBands o ws) (q .answer);
         as-found = λ h. (s .as-found z, refl, refl);
+        exactly-when = s .exactly-when;
+        unit-told = λ l i o. absurd (z (s .exactly-when .1 (l, i, o)));
       }
 
 parse-and-decode-spu-requires : tie.Need-parse-and-decode-spu-requires

@@ -9,6 +9,7 @@ use Rattle.bands_model.specs.declared.BandAnswer.{BandAnswer}
 use Rattle.bands_model.specs.declared.BandAnswer.the-variants as band-answer
 use Rattle.vobsub_c.specs.Answers.{bandRefusal, bandCount, BandsGiven}
 use Rattle.vobsub_c.proofs.Returned.{bands-returned}
+use Rattle.vobsub_c.proofs.Told.{told-payload, told-many, told-none}
 use Rattle.vobsub_c.proofs.vobsub_parse_chg_colcon_payload.Statement.{statement}
 use Rattle.vobsub_c.proofs.vobsub_parse_chg_colcon_payload.Tie as tie
 
@@ -16,12 +17,16 @@ use Rattle.vobsub_c.proofs.vobsub_parse_chg_colcon_payload.Tie as tie
 given : (p ws ws′ : List ℕ) (n : ℕ) (a b : BandAnswer) → a ≡ b → Stored p ws a ws′ → Says p ws ws′ a → BandsGiven p ws n (bandRefusal b) ws′ (bandCount b n)
 given p ws ws′ n a b e q s =
     let h = sym e ∙ q .answer in
+    let t = subst (Says p ws ws′) e s in
     record {
       refusal = ap bandRefusal h;
       returned = bands-returned _ _ (ap bandRefusal h);
       counted = ap (λ (o : BandAnswer). bandCount o n) h;
       stores = q .words;
-      as-found = kept b (subst (Says p ws ws′) e s);
+      as-found = kept b t;
+      payload-told = told-payload p ws ws′ n b t;
+      too-many = told-many p ws ws′ n b t;
+      unlisted = told-none p ws ws′ n b t;
     }
   where
     kept : (o : BandAnswer) → Says p ws ws′ o → (bandRefusal o ≡ 0 → ⊥) → (ws′ ≡ ws) × (bandCount o n ≡ n)
