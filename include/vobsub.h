@@ -91,15 +91,17 @@ enum vobsub_index_number {
 enum { VOBSUB_PALETTE = 48 };
 
 /* Reads an index text, the text_len bytes of a .idx file. The start of each cue, in microseconds, goes to the front of starts, which has
-   starts_len numbers, and its position in the file to the front of positions, which has positions_len numbers; palette has VOBSUB_PALETTE
-   bytes, and gets the palette, black where no entry is given; numbers has VOBSUB_INDEX_NUMBERS numbers. palette and numbers are not null, and
-   the five regions do not overlap. Of starts and positions as many are written as there are cues; on a refusal (1 to 10) all four are as they
-   were. A text of no bytes, text_len 0, is one cue whose start and position are 0, and so needs a place in starts and in positions (else 10);
-   it gives no size and no palette, and what palette gets is grey: red, green and blue of entry i are 17 * i. No other text is read so: one of
-   blanks alone has no cue, and its palette is black. */
+   starts_len numbers, and its position in the file to the front of positions, which has positions_len numbers of 32 bits; palette has
+   VOBSUB_PALETTE bytes, and gets the palette, black where no entry is given; numbers has VOBSUB_INDEX_NUMBERS numbers. palette and numbers are
+   not null, and the five regions do not overlap. Of starts and positions as many are written as there are cues; on a refusal (1 to 10, and 41,
+   a position above 4,294,967,295: of 2 to 10 and 41 the first faulty line counts, and in it 41 comes before 10) all four are as they were. A
+   text that has such a position in any line is refused whole, so that every position that is stored is the text's. A text of no bytes,
+   text_len 0, is one cue whose start and position are 0, and so needs a place in starts and in positions (else 10); it gives no size and no
+   palette, and what palette gets is grey: red, green and blue of entry i are 17 * i. No other text is read so: one of blanks alone has no cue,
+   and its palette is black. */
 uint8_t vobsub_parse_idx(const uint8_t *text, size_t text_len,
                          int64_t *starts, size_t starts_len,
-                         uint64_t *positions, size_t positions_len,
+                         uint32_t *positions, size_t positions_len,
                          uint8_t palette[VOBSUB_PALETTE],
                          size_t numbers[VOBSUB_INDEX_NUMBERS]);
 
@@ -115,7 +117,8 @@ enum vobsub_cue_number {
 /* Finds one cue of an index text, the text_len bytes of a .idx file; cues are numbered from 0, and cue may be any number. *start is set to its
    start in microseconds; palette has VOBSUB_PALETTE bytes, and gets the text's palette; numbers has VOBSUB_CUE_NUMBERS numbers, and gets those
    of the cue. start, palette and numbers are not null, and the four regions do not overlap. Every line is checked all the same; on a refusal
-   (1 to 9, 11) *start, palette and numbers are as they were. A text of no bytes has cue 0 and no other, as for vobsub_parse_idx. */
+   (1 to 9 and 41, a position above 4,294,967,295 in any line, then 11) *start, palette and numbers are as they were. A text of no bytes has cue
+   0 and no other, as for vobsub_parse_idx. */
 uint8_t vobsub_pick_cue(const uint8_t *text, size_t text_len,
                         size_t cue,
                         int64_t *start,
@@ -151,10 +154,10 @@ enum vobsub_shown_number {
    pixels_len bytes; a unit that packets hold is joined in the front of scratch, which has scratch_len bytes. times has VOBSUB_TIMES numbers, and
    gets the cue's times; numbers has VOBSUB_SHOWN_NUMBERS numbers, and gets those of the cue. times and numbers are not null, and the seven
    regions do not overlap. Of canvas 4 * width * height bytes are written, of pixels width * height, of scratch as many as the joined unit takes.
-   On a refusal (1 to 9, then 32, then 11 to 21, then 34, more than 32 bands, then 22, 24, 25, 26, then 33, where a time that there is does not fit
-   int64_t) all are as they were, but that after those behind 14 a unit that packets hold is in the front of scratch. A text of no bytes has cue 0,
-   at the front of file, painted in greys as for vobsub_parse_idx. A unit has 65535 bytes at most, a picture 4096 by 4096 pixels. It takes up to
-   264 KiB of stack. */
+   On a refusal (1 to 9 and 41, then 32, then 11 to 21, then 34, more than 32 bands, then 22, 24, 25, 26, then 33, where a time that there is
+   does not fit int64_t) all are as they were, but that after those behind 14 a unit that packets hold is in the front of scratch. A text of no
+   bytes has cue 0, at the front of file, painted in greys as for vobsub_parse_idx. A unit has 65535 bytes at most, a picture 4096 by 4096
+   pixels. It takes up to 264 KiB of stack. */
 uint8_t vobsub_decode_cue(const uint8_t *text, size_t text_len,
                           const uint8_t *file, size_t file_len,
                           size_t cue, size_t stream,

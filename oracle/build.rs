@@ -1,7 +1,8 @@
 // Takes the original from beside the repository (or from the folder that VOBSUB_ORIGINAL names) into the build's own
 // folder: private items opened, and an adapter appended. Nothing else is changed, but in the copies that are meant to
 // differ: one that counts codes, clipped codes and bands and says whether a start and a stop stood, and, with the feature
-// `mutants`, one for each line of mutants.txt, of the original, of src/empty.rs, of src/limit.rs or of src/times.rs.
+// `mutants`, one for each line of mutants.txt, of the original, of src/empty.rs, of src/limit.rs, of src/stored.rs or of
+// src/times.rs.
 use std::env;
 use std::fs;
 use std::path::{Path, PathBuf};
@@ -85,7 +86,7 @@ fn main() {
     let path = folder.join("src/vobsub.rs");
     let library = repository.join("target/staticlib");
     println!("cargo:rerun-if-env-changed=VOBSUB_ORIGINAL");
-    let own = ["mutants.txt", "src/adapter.rs", "src/empty.rs", "src/limit.rs", "src/times.rs"].map(|file| here.join(file));
+    let own = ["mutants.txt", "src/adapter.rs", "src/empty.rs", "src/limit.rs", "src/stored.rs", "src/times.rs"].map(|file| here.join(file));
     for file in own.iter().chain([&path, &library.join("libvobsub_c.a")]) {
         println!("cargo:rerun-if-changed={}", file.display());
     }
@@ -102,6 +103,7 @@ fn main() {
 
     let empty = fs::read_to_string(here.join("src/empty.rs")).expect("empty.rs");
     let limit = fs::read_to_string(here.join("src/limit.rs")).expect("limit.rs");
+    let stored = fs::read_to_string(here.join("src/stored.rs")).expect("stored.rs");
     let times = fs::read_to_string(here.join("src/times.rs")).expect("times.rs");
     modules += "pub const MUTANTS: &[(&str, crate::side::Side)] = &[\n";
     let mut mutants = String::new();
@@ -118,6 +120,7 @@ fn main() {
                 }
                 Some(("empty", function)) => (&empty, function, "", format!("crate::side::Side {{ empty: {name}::EMPTY, ..original::adapter::SIDE }}")),
                 Some(("limit", function)) => (&limit, function, "", format!("crate::side::Side {{ limit: {name}::LIMIT, ..original::adapter::SIDE }}")),
+                Some(("stored", function)) => (&stored, function, "", format!("crate::side::Side {{ stored: {name}::STORED, ..original::adapter::SIDE }}")),
                 Some(("times", function)) => (&times, function, "", format!("crate::side::Side {{ times: {name}::TIMES, ..original::adapter::SIDE }}")),
                 Some(_) => panic!("a line of mutants.txt: {line}"),
             };

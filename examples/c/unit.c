@@ -1,7 +1,7 @@
 /* Lists the unit of a stream at a position of a file: its record, its bands and its picture.
    unit [FILE POSITION [STREAM]]   (the position in hexadecimal; stream 0 where none is named)
    Without words it lists the two languages of a small file of its own, and paints the cue of a small title in both;
-   then the cue of the file with an empty index. */
+   then the cue of the file with an empty index; then the cue tables of three index texts. */
 #include <inttypes.h>
 #include <stdio.h>
 #include <stdlib.h>
@@ -29,6 +29,14 @@ static const char index_text[] =
     "size: 720x576\n"
     "palette: 000000, ff0000, 00ff00, 0000ff\n"
     "timestamp: 00:00:01:000, filepos: 0\n";
+
+/* cues at the front of a file and at the last position that the cue table holds; and the second one byte further on */
+static const char table_text[] =
+    "timestamp: 00:00:01:000, filepos: 000000000\n"
+    "timestamp: 00:00:03:000, filepos: 0ffffffff\n";
+static const char large_text[] =
+    "timestamp: 00:00:01:000, filepos: 000000000\n"
+    "timestamp: 00:00:03:000, filepos: 100000000\n";
 
 /* as long as any unit, and as large as any picture */
 static uint8_t scratch[65535], pixels[4096 * 4096];
@@ -141,6 +149,24 @@ static int list(const uint8_t *file, size_t file_len, size_t position, size_t st
     return 0;
 }
 
+/* The cue table of an index text: starts of 64 bits, positions of 32. */
+static void table(const char *text, size_t text_len)
+{
+    int64_t starts[4];
+    uint32_t positions[4];
+    uint8_t palette[VOBSUB_PALETTE], refusal;
+    size_t i, numbers[VOBSUB_INDEX_NUMBERS];
+
+    refusal = vobsub_parse_idx((const uint8_t *)text, text_len, starts, 4, positions, 4, palette, numbers);
+    if (refusal != 0) {
+        printf("index refused %u\n", refusal);
+        return;
+    }
+    printf("cues %zu, %zu bytes\n", numbers[VOBSUB_CUES], numbers[VOBSUB_CUES] * (sizeof starts[0] + sizeof positions[0]));
+    for (i = 0; i < numbers[VOBSUB_CUES]; i++)
+        printf("%" PRId64 " at %08" PRIX32 "\n", starts[i], positions[i]);
+}
+
 int main(int count, char **words)
 {
     /* two that the file has, one that it has not, and a number above those of streams, which are 0 to 31 */
@@ -164,5 +190,9 @@ int main(int count, char **words)
     /* an empty index is one cue at the front of the file, in greys */
     paint(NULL, 0, 0, 0);
     paint(NULL, 0, 1, 0);
+    table(index_text, sizeof index_text - 1);
+    table(table_text, sizeof table_text - 1);
+    /* no cue of it is stored, also not the first */
+    table(large_text, sizeof large_text - 1);
     return 0;
 }

@@ -132,6 +132,7 @@ pub mod adapter {
         counting: crate::counting::adapter::COUNTING,
         empty: crate::empty::EMPTY,
         limit: crate::limit::LIMIT,
+        stored: crate::stored::STORED,
         times: crate::times::TIMES,
     };
 }

@@ -110,6 +110,7 @@ pub fn tried<T>(f: impl FnOnce() -> T) -> Result<T, String> {
 // Lent memory starts with this pattern, so that what is written shows.
 pub const BYTE: u8 = 0xA5;
 pub const WORD: u16 = 0xA5C3;
+// Positions start with its low 32 bits, in which no byte is 0 and no two are the same.
 pub const NUMBER: usize = 0xA5C3_5A3C_0FF0_9669;
 pub const START: i64 = 0x5AC3_5A3C_0FF0_9669;
 

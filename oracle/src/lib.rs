@@ -7,6 +7,7 @@ pub mod oxideav_core;
 pub mod port;
 pub mod random;
 pub mod side;
+pub mod stored;
 pub mod times;
 pub mod titles;
 pub mod walk;

@@ -36,7 +36,7 @@ unsafe extern "C" {
     fn vobsub_parse_chg_colcon_payload(payload: *const u8, payload_len: usize, bands: *mut u16, count: *mut usize) -> u8;
     fn vobsub_decode_rle_field(field: *const u8, field_len: usize, width: usize, height: usize, start_row: usize, pixels: *mut u8, pixels_len: usize, codes: *mut usize, clipped: *mut usize) -> u8;
     fn vobsub_parse_and_decode_spu(unit: *const u8, unit_len: usize, pixels: *mut u8, pixels_len: usize, bands: *mut u16, numbers: *mut usize) -> u8;
-    fn vobsub_parse_idx(text: *const u8, text_len: usize, starts: *mut i64, starts_len: usize, positions: *mut u64, positions_len: usize, palette: *mut u8, numbers: *mut usize) -> u8;
+    fn vobsub_parse_idx(text: *const u8, text_len: usize, starts: *mut i64, starts_len: usize, positions: *mut u32, positions_len: usize, palette: *mut u8, numbers: *mut usize) -> u8;
     fn vobsub_pick_cue(text: *const u8, text_len: usize, cue: usize, start: *mut i64, palette: *mut u8, numbers: *mut u64) -> u8;
     fn vobsub_decode_cue(
         text: *const u8,
@@ -81,7 +81,7 @@ pub fn write(width: usize, height: usize, indices: &[u8], out: &mut [u8], length
     unsafe { vobsub_build_demo_spu(width, height, indices.as_ptr(), indices.len(), out.as_mut_ptr(), out.len(), length) }
 }
 
-pub fn parse_idx(text: &[u8], starts: &mut [i64], positions: &mut [u64], palette: &mut [u8; COLOURS], numbers: &mut [usize; INDEX_NUMBERS]) -> u8 {
+pub fn parse_idx(text: &[u8], starts: &mut [i64], positions: &mut [u32], palette: &mut [u8; COLOURS], numbers: &mut [usize; INDEX_NUMBERS]) -> u8 {
     unsafe { vobsub_parse_idx(text.as_ptr(), text.len(), starts.as_mut_ptr(), starts.len(), positions.as_mut_ptr(), positions.len(), palette.as_mut_ptr(), numbers.as_mut_ptr()) }
 }
 

@@ -73,6 +73,7 @@ pub struct Side {
     pub counting: Counting,
     pub empty: Empty,
     pub limit: Limit,
+    pub stored: Stored,
     pub times: Times,
 }
 
@@ -113,6 +114,36 @@ impl Limit {
     pub fn rule(&self, counts: Counts, refusal: u8) -> Option<&'static str> {
         (self.asked)(counts.bands, refusal).then_some(MANY)
     }
+}
+
+// A line of an index text, by what the original says.
+pub struct Line {
+    // Of the text up to it and with it: the refusal, or 0 and how many cues there are.
+    pub refusal: u8,
+    pub cues: usize,
+    // Of the line by itself: the position, where it is accepted as a cue.
+    pub position: Option<u64>,
+}
+
+// What is known of the positions of an index text, with room for so many cues.
+#[derive(Default)]
+pub struct Said {
+    // Whether it is accepted with the greatest position that is stored.
+    pub last: bool,
+    // Its lines, but where the original accepts it and no position is above that one.
+    pub lines: Vec<Line>,
+    // The first of them that is refused, and the number.
+    pub at: Option<(usize, u8)>,
+    pub room: usize,
+}
+
+// The bound of 32 bits that positions have; the original's is 64.
+#[derive(Clone, Copy)]
+pub struct Stored {
+    // Whether a position is above it.
+    pub above: fn(u64) -> bool,
+    // The first line that is refused, where there is room for so many cues, and the number.
+    pub first: fn(&[Line], usize) -> Option<(usize, u8)>,
 }
 
 // What a cue's times are worked out from: its start, and the delays of its first start and last stop, of those that stood.

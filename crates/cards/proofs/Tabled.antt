@@ -6,7 +6,7 @@ use mathlib.Core.Path.{_≡_, refl, sym, ap, ap₂, _∙_}
 use mathlib.Core.Bool.{true}
 use mathlib.Core.List.{List, [], _∷_, _++_, map}
 use lib.ListN.{getD, replicate}
-use Rattle.outcome.specs.Outcome.{ok}
+use Rattle.outcome.specs.Outcome.{ok, refuse, large-position}
 use Rattle.outcome.specs.Lists.{listFuel, listFrom}
 use Rattle.grammar.specs.Bytes.{word, nibble, nibbles}
 use Rattle.grammar.specs.Rows.{paints, overshoots, afterCodes, align}
@@ -35,7 +35,7 @@ use Rattle.idx_numbers_model.specs.Numbers.{unsigned, signed, bare}
 use Rattle.grammar.specs.IndexCues.{cuesOfLines, cueAt, durationOf}
 use Rattle.idx_lines_model.specs.Lines.{steps, firstOf, lastOf, partsAt}
 use Rattle.idx_model.specs.Text.{linesIn, textIn, idxIn}
-use Rattle.listing_model.specs.Lines.{digitsIn, decimal, shownLine, refusedLine, cuesLine, fileLine}
+use Rattle.listing_model.specs.Lines.{digitsIn, decimal, shownLine, refusedLine, cuesLine, indexLine, fileLine}
 use Rattle.clock_model.specs.Clock.{timesStay}
 use Rattle.listing_model.specs.Title.{unitFor, timedFor, shownFor, readable, cuesIn, cueLines, titleLines}
 use Rattle.idx_lines_model.specs.Lines as text-lines
@@ -49,7 +49,7 @@ use Rattle.grammar.specs.Reading.{wanted}
 use Rattle.grammar.proofs.Readings as readings
 use Rattle.vobsub_model.specs.Call.{lent}
 use Rattle.vobsub_model.proofs.Claim.{reading-iff}
-use Rattle.cards.specs.Table.{Card, code, reader, field, fields, unit, found, held, written, upper, position, start, stamped, hours-stand, hours-leave, small-text, small-file, cueFrom, shownFrom, shows, cue, title, small-title, small-painted, alone-title, alone-painted, timed-file, timed-painted, bytes, lines, table}
+use Rattle.cards.specs.Table.{Card, code, reader, field, fields, unit, found, held, written, upper, position, start, stamped, hours-stand, hours-leave, small-text, small-file, cueFrom, shownFrom, shows, cue, title, small-title, small-painted, alone-title, alone-painted, timed-file, timed-painted, placed, places, text-41, title-41, bytes, lines, table}
 
 abbrev gotOf : List Card → List (List ℕ)
 gotOf = map (λ (c : Card). c .got)
@@ -73,6 +73,27 @@ stand-holds = refl
 leave-holds : hours-leave .got ≡ hours-leave .want
 unfolding hours-leave stamped front rest shorn trim strip checked cuesOfLines cueAt durationOf firstOf lastOf partsAt text-lines.lineOf linesIn textIn idxIn numeral startOf all split unsigned signed bare text-lines.fields steps timeAt
 leave-holds = refl
+
+-- positions at the end of what is stored, and past it
+places-hold : gotOf places ≡ wantOf places
+unfolding places placed front rest shorn trim strip checked cuesOfLines cueAt durationOf firstOf lastOf partsAt text-lines.lineOf linesIn textIn idxIn numeral startOf all split unsigned signed bare text-lines.fields steps timeAt
+places-hold = refl
+
+cues-41 : cuesIn text-41 ≡ refuse large-position
+unfolding text-41 front rest shorn trim strip checked cuesOfLines cueAt durationOf firstOf lastOf partsAt text-lines.lineOf linesIn textIn idxIn numeral startOf all split unsigned signed bare text-lines.fields steps timeAt
+cues-41 = refl
+
+readable-41 : readable true text-41 [] ≡ true
+unfolding text-41
+readable-41 = refl
+
+line-41 : indexLine large-position ++ [] ≡ title-41 .want
+unfolding title-41 indexLine decimal digitsIn
+line-41 = refl
+
+title-41-holds : title-41 .got ≡ title-41 .want
+unfolding title-41 title titleLines cueLines
+title-41-holds = rw (readable-41, cues-41) line-41
 
 -- the title of 2 by 2: its cues, what is shown of its unit from two starts on, and its line
 small-cues : cuesIn small-text ≡ ok (cueFrom 1000000 ∷ [])
@@ -152,6 +173,11 @@ map-both : (f : Card → List ℕ) (a b : List Card) → map f (a ++ b) ≡ map 
 map-both f [] b = refl
 map-both f (c ∷ a) b = ap (λ (l : List (List ℕ)). f c ∷ l) (map-both f a b)
 
+join : (a b : List Card) → gotOf a ≡ wantOf a → gotOf b ≡ wantOf b → gotOf (a ++ b) ≡ wantOf (a ++ b)
+join a b p q =
+    map-both (λ (c : Card). c .got) a b ∙ ap₂ (λ (x y : List (List ℕ)). x ++ y) p q
+    ∙ sym (map-both (λ (c : Card). c .want) a b)
+
 first : {x y : List ℕ} {l m : List (List ℕ)} → x ≡ y → l ≡ m → x ∷ l ≡ y ∷ m
 first p q = ap₂ (λ (x : List ℕ) (l : List (List ℕ)). x ∷ l) p q
 
@@ -170,7 +196,8 @@ tabled =
     (first alone-paints
     (first alone-holds
     (first timed-paints
-    (map-both (λ (c : Card). c .got) bytes lines ∙ ap₂ (λ (a b : List (List ℕ)). a ++ b) bytes-hold lines-hold ∙ sym (map-both (λ (c : Card). c .want) bytes lines))))))))
+    (first title-41-holds
+    (join (places ++ bytes) lines (join places bytes places-hold bytes-hold) lines-hold))))))))
 
 pub each : (k : ℕ) → getD got k [] ≡ getD want k []
 each k = ap (λ (l : List (List ℕ)). getD l k []) tabled

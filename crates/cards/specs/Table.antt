@@ -15,7 +15,7 @@ use Rattle.idx_numbers_model.specs.Parts.{split}
 use Rattle.idx_lines_model.specs.Lines.{timestampOf}
 use Rattle.idx_lines_model.specs.Answers.{timeAt}
 use Rattle.grammar.specs.Parts.{Part}
-use Rattle.grammar.specs.Index.{Said, size, palette, timestamp, startOf}
+use Rattle.grammar.specs.Index.{Said, size, palette, timestamp, timestamp-word, filepos-word, startOf}
 use Rattle.grammar.specs.Rows.{colour, paints, overshoots}
 use Rattle.grammar.specs.Pixels.{codesIn, clippedIn, indexMap}
 use Rattle.grammar.specs.Control.{forced-start, stop, selectors, alphas, area, offsets, colours, Block}
@@ -213,6 +213,16 @@ stamped d =
     outcome startIn
     (timestampOf (part 0 []) (part 11 (hours d) ∷ part 23 (102 ∷ 105 ∷ 108 ∷ 101 ∷ 112 ∷ 111 ∷ 115 ∷ 58 ∷ 32 ∷ 48 ∷ []) ∷ []))
 
+-- the start and the position that a timestamp with the parts `0` and `filepos:` with these digits says
+abbrev placeIn : Option Said → List ℕ
+placeIn none = []
+placeIn (some (size l w h)) = []
+placeIn (some (palette l ts)) = []
+placeIn (some (timestamp l ps fs n)) = whole (startOf fs) ++ n .value ∷ []
+
+unfoldable pub placed : List ℕ → List ℕ
+placed d = outcome placeIn (timestampOf (part 0 []) (part 10 (48 ∷ []) ∷ part 12 (filepos-word ++ d) ∷ []))
+
 unfoldable pub bytes : List Card
 bytes =
     -- each length of code at its least and its greatest run, and a fill (FORMAT 5.2 to 5.4, 5.11)
@@ -331,7 +341,26 @@ hours-stand = card (stamped 56) (0 ∷ 0 ∷ 9223372036800000000 ∷ [])
 unfoldable pub hours-leave : Card
 hours-leave = card (stamped 57) (8 ∷ [])
 
+-- positions that are stored and that are not: `FFFFFFFF` is a cue, `100000000` and the 17 digits `10000000000000000`
+-- are 41 (FORMAT 1.8)
+unfoldable pub places : List Card
+places =
+    card (placed (replicate 8 70)) (0 ∷ 0 ∷ 0 ∷ 4294967295 ∷ [])
+    ∷ card (placed (49 ∷ replicate 8 48)) (41 ∷ [])
+    ∷ card (placed (49 ∷ replicate 16 48)) (41 ∷ [])
+    ∷ []
+
+-- the index text `timestamp:0,filepos:100000000`, and its title: `index refused 41`
+unfoldable pub text-41 : List ℕ
+text-41 = timestamp-word ++ 48 ∷ 44 ∷ filepos-word ++ 49 ∷ replicate 8 48
+
+unfoldable pub title-41 : Card
+title-41 =
+    card (title text-41 [])
+    (105 ∷ 110 ∷ 100 ∷ 101 ∷ 120 ∷ 32 ∷ 114 ∷ 101 ∷ 102 ∷ 117 ∷ 115 ∷ 101 ∷ 100 ∷ 32 ∷ 52 ∷ 49 ∷ 10 ∷ [])
+
 -- all of them
 abbrev pub table : List Card
 table =
-    hours-stand ∷ hours-leave ∷ small-painted ∷ small-title ∷ alone-painted ∷ alone-title ∷ timed-painted ∷ bytes ++ lines
+    hours-stand ∷ hours-leave ∷ small-painted ∷ small-title ∷ alone-painted ∷ alone-title ∷ timed-painted ∷ title-41
+    ∷ places ++ bytes ++ lines

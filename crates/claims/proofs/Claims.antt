@@ -1,22 +1,22 @@
 -- The final theorems. Each takes what the contract of a function says, an equation for its answer and for the last
 -- content of what was lent, and gives what that means in the grammar's words. Assumes nothing.
 use Prim.Native.Nat.{ℕ, _+_, _*_, _/_, _≤_, _<_, min}
-use mathlib.Core.Path.{_≡_}
+use mathlib.Core.Path.{_≡_, refl}
 use mathlib.Core.Bool.{Bool, true, false}
 use mathlib.Core.Logic.{_↔_}
 use mathlib.Core.Option.{some, none}
-use mathlib.Core.List.{List, []}
+use mathlib.Core.List.{List, [], _∷_, _++_}
 use lib.ListN.{length, getD, set, replicate}
 use lib.Seq.{sets}
 use lib.IntN.{ℤ, pos, _+ℤ_}
-use Rattle.outcome.specs.Outcome.{refuse, InTable, short-cues, no-cue, many-bands, long-instant}
+use Rattle.outcome.specs.Outcome.{refuse, InTable, large-position, short-cues, no-cue, many-bands, long-instant}
 use Rattle.outcome.proofs.Numbers.{no-23}
 use Rattle.grammar.specs.Bytes.{byte}
 use Rattle.grammar.specs.Bands.{Band, Bands, bandWords, recordWords}
 use Rattle.grammar.specs.Control.{Block, IsChain}
 use Rattle.grammar.specs.IndexParts.{blank, All}
-use Rattle.grammar.specs.Index.{greys, ListedText, of-lines, no-bytes, IsText}
-use Rattle.grammar.specs.IndexCues.{Cue, cuesOf, cueAt, paletteOf, hasPalette}
+use Rattle.grammar.specs.Index.{Said, timestamp-word, filepos-word, top-stored, LargePosition, LargeIn, FirstLarge, greys, ListedText, of-lines, no-bytes, IsText}
+use Rattle.grammar.specs.IndexCues.{Cue, cuesOfLines, cuesOf, cueAt, paletteOf, hasPalette}
 use Rattle.grammar.specs.Packets.{Packet, Form, IsForm, unitOf, scratchFor, streamId, top-stream}
 use Rattle.grammar.specs.Picture.{ListedUnit, IsUnit}
 use Rattle.grammar.specs.Pixels.{clippedIn}
@@ -35,6 +35,7 @@ use Rattle.grammar.proofs.Times.{shown-at, hidden-at, not-shown, not-hidden, ti
 use Rattle.grammar.proofs.Streams.{walk-same}
 use Rattle.clock_model.specs.Answers.{micros, timeOr0}
 use Rattle.grammar.proofs.NoBytes.{no-bytes-listed, only-no-bytes, no-bytes-reading, no-bytes-read, grey-entries, grey-rule, bytes-black}
+use Rattle.grammar.proofs.Positions.{large-text, large-unread, positions-stored, seventeen-large}
 use Rattle.rle_model.specs.declared.FieldAnswer.{FieldAnswer}
 use Rattle.rle_model.specs.Answers as field
 use Rattle.rle_model.specs.Claim as field-claim
@@ -55,6 +56,7 @@ use Rattle.idx_model.specs.Text.{idxOf}
 use Rattle.idx_model.specs.Answers.{IdxRead, pickOf, cueAnswer}
 use Rattle.idx_model.specs.Claim.{IdxSays, CueSays}
 use Rattle.idx_model.proofs.Claim.{idx-claim, cue-claim}
+use Rattle.idx_model.proofs.Large.{held-whole, read-large, large-refused, picked-large, large-unpicked}
 use Rattle.idx_model.proofs.NoBytes.{read-short, read-stored, picked-first, picked-other, blanks-listed, blanks-cueless, blanks-read, blanks-picked, blanks-unread}
 use Rattle.spu_model.specs.declared.Record.{Record}
 use Rattle.spu_model.specs.declared.SpuAnswer.{SpuAnswer}
@@ -74,9 +76,10 @@ use Rattle.vobsub_model.specs.declared.CanvasAnswer.{CanvasAnswer}
 use Rattle.vobsub_model.specs.declared.CanvasAnswer.the-variants as canvas-answer
 use Rattle.vobsub_model.specs.Call.{Lent, listedIn}
 use Rattle.vobsub_model.specs.Answers.{CuePainted}
-use Rattle.vobsub_model.specs.Claim.{Room, Exactly, Undisturbed}
+use Rattle.vobsub_model.specs.Claim.{Gives, Room, Exactly, Undisturbed}
 use Rattle.vobsub_model.proofs.Claim as vobsub-proof
 use Rattle.vobsub_model.proofs.Late.{earlier, late-listed}
+use Rattle.vobsub_model.proofs.Large.{call-large, large-unpainted}
 use Rattle.vobsub_model.proofs.Many.{many-listed}
 use Rattle.vobsub_model.proofs.Streams as vobsub-streams
 use Rattle.vobsub_model.proofs.NoBytes.{painted-grey}
@@ -257,6 +260,66 @@ a-cue = cue-claim
 
 pub one-text : (text : List ℕ) (a b : ListedText) → IsText text a → IsText text b → a ≡ b
 one-text = text-unique
+
+-- Positions in 32 bits (`parse_idx`, `pick_cue`, `decode_cue`): each position of a listed text, and so of a reading, is
+-- at most 4,294,967,295, and `parse_idx` stores it whole. A text that has a timestamp whose position is larger, in
+-- whichever line, is not listed, no cue of it has a reading, and it is refused: nothing is stored, painted or joined.
+-- 41 is returned exactly where every byte is below `80`, such a line is the first at fault and, where cues are stored,
+-- those before it have room; no cue and no stream that is asked for changes that. 17 digits are read as the decimal
+-- number that they are, and are then too large.
+pub largest-stored : top-stored ≡ 4294967295
+largest-stored = refl
+
+pub positions-in-32-bits : (text : List ℕ) (t : ListedText) → IsText text t → (n : ℕ) (c : Cue)
+    → cueAt (cuesOf t) n ≡ some c → c .position ≤ 4294967295
+positions-in-32-bits = positions-stored
+
+pub stored-whole : (text : List ℕ) (starts : List ℤ) (positions : List ℕ) (r : IdxAnswer)
+    (starts′ : List ℤ) (positions′ : List ℕ)
+    → IdxRead text starts positions r starts′ positions′ → (t : ListedText) → IsText text t → r .refused ≡ 0
+    → (n : ℕ) (c : Cue) → cueAt (cuesOf t) n ≡ some c → (getD positions′ n 0 ≡ c .position) × (c .position ≤ 4294967295)
+stored-whole = held-whole
+
+pub larger-unlisted : (text : List ℕ) → LargeIn text
+    → ((t : ListedText) → IsText text t → ⊥)
+    × ((file : List ℕ) (q : Wanted) (x : Reading) → IsReading text file q x → ⊥)
+larger-unlisted text h = (large-text text h, large-unread text h)
+
+pub larger-parsed : (text : List ℕ) → LargeIn text
+    → (starts : List ℤ) (positions : List ℕ) (r : IdxAnswer) (starts′ : List ℤ) (positions′ : List ℕ)
+    → IdxRead text starts positions r starts′ positions′
+    → (r .refused ≡ 0 → ⊥) × (starts′ ≡ starts) × (positions′ ≡ positions)
+larger-parsed = large-refused
+
+pub larger-unpicked : (text : List ℕ) → LargeIn text
+    → (n : ℕ) (r : CueAnswer) → r ≡ cueAnswer (pickOf (idxOf text) n) → r .refused ≡ 0 → ⊥
+larger-unpicked = large-unpicked
+
+pub larger-unpainted : (text file : List ℕ) (q : Wanted) (b : Lent) → LargeIn text
+    → (r : CanvasAnswer) (b′ : Lent) → CuePainted text file q b r b′
+    → (Gives r → ⊥) × (b′ .scratch ≡ b .scratch) × (b′ .pixels ≡ b .pixels) × (b′ .canvas ≡ b .canvas)
+larger-unpainted = large-unpainted
+
+pub parsed-41 : (text : List ℕ) (starts : List ℤ) (positions : List ℕ) (r : IdxAnswer)
+    (starts′ : List ℤ) (positions′ : List ℕ)
+    → IdxRead text starts positions r starts′ positions′
+    → (r .refused ≡ large-position)
+    ↔ ((ls : List Said) × FirstLarge text ls × (length (cuesOfLines ls) ≤ min (length starts) (length positions)))
+parsed-41 = read-large
+
+pub picked-41 : (text : List ℕ) (n : ℕ) (r : CueAnswer) → r ≡ cueAnswer (pickOf (idxOf text) n)
+    → (r .refused ≡ large-position) ↔ ((ls : List Said) × FirstLarge text ls)
+picked-41 = picked-large
+
+pub refused-41 : (text file : List ℕ) (q : Wanted) (b : Lent) (r : CanvasAnswer) (b′ : Lent)
+    → CuePainted text file q b r b′
+    → (r ≡ canvas-answer.Refused large-position) ↔ ((ls : List Said) × FirstLarge text ls)
+refused-41 = call-large
+
+pub seventeen-digits :
+    (h : LargePosition (record { place = 0; bytes = timestamp-word ++ 48 ∷ 44 ∷ filepos-word ++ 49 ∷ replicate 16 48 }))
+    × (h .number .value ≡ 10000000000000000)
+seventeen-digits = seventeen-large
 
 -- An index of no bytes (`parse_idx`, `pick_cue`, `decode_cue`) is listed in one way, as one cue in greys. It needs a
 -- place in both buffers, and is stored in the first of each; it has cue 0 and no other; its readings are those of the

@@ -7,8 +7,8 @@ use mathlib.Core.List.{List, [], _∷_, _++_}
 use lib.Dec.{leb, ltb, eqb}
 use lib.ListN.{length, take, replicate}
 use lib.Seq.{slice}
-use Rattle.outcome.specs.Outcome.{InTable, ok, refuse, Numbered, no-head, bad-head, cut-parameters, small-size, no-band-list, unknown-command, no-area, many-bands}
-use Rattle.outcome.proofs.Numbers.{in-table, check-numbered, checked-numbered, cond-numbered, andThen-numbered, mapRes-numbered, only-numbered, list-numbered}
+use Rattle.outcome.specs.Outcome.{InTable, ok, refuse, RefusedWith, Numbered, no-head, bad-head, cut-parameters, small-size, no-band-list, unknown-command, no-area, many-bands}
+use Rattle.outcome.proofs.Numbers.{AfterText, after-in-table, check-numbered, checked-numbered, cond-numbered, andThen-numbered, mapRes-numbered, only-numbered, list-numbered}
 use Rattle.outcome.proofs.Laws.{clash, and-true}
 use borrow.Author.Tests.{leb-true}
 use Rattle.grammar.specs.Bytes.{byte, word, nibble, nibbles}
@@ -23,54 +23,63 @@ use Rattle.control_model.specs.Few.{fewAt}
 use Rattle.control_model.proofs.Grammar.{command-falls, chain-falls}
 use Rattle.outcome.specs.Lists.{listFuel, listFrom}
 
-module _ (u : List ℕ) (L : ℕ) where
-  bands-numbered : (e p : ℕ) → Numbered (bandsAt u e p)
+-- over any property of the numbers after those of a text
+module _ (P : ℕ → Type 0) (each : AfterText P) (u : List ℕ) (L : ℕ) where
+  bands-with : (e p : ℕ) → RefusedWith P (bandsAt u e p)
   unfolding bandsAt
-  bands-numbered e p =
-      mapRes-numbered InTable (heldBands p) (bandsOf (slice p e u)) (only-numbered InTable no-band-list (in-table no-band-list refl) (bandsOf (slice p e u)) (bands-refuses (slice p e u)))
+  bands-with e p =
+      mapRes-numbered P (heldBands p) (bandsOf (slice p e u))
+      (only-numbered P no-band-list (each no-band-list refl) (bandsOf (slice p e u)) (bands-refuses (slice p e u)))
 
-  change-numbered : (p : ℕ) → Numbered (changeAt u L p)
+  change-with : (p : ℕ) → RefusedWith P (changeAt u L p)
   unfolding changeAt
-  change-numbered p =
-      check-numbered InTable (leb (p + 2) L) cut-parameters _ (in-table cut-parameters refl)
-      (check-numbered InTable (leb 2 (word u p)) small-size _ (in-table small-size refl)
-      (check-numbered InTable (leb (p + word u p) L) cut-parameters _ (in-table cut-parameters refl)
-      (mapRes-numbered InTable (colours (word u p)) (bandsAt u (p + word u p) (p + 2)) (bands-numbered (p + word u p) (p + 2)))))
+  change-with p =
+      check-numbered P (leb (p + 2) L) cut-parameters _ (each cut-parameters refl)
+      (check-numbered P (leb 2 (word u p)) small-size _ (each small-size refl)
+      (check-numbered P (leb (p + word u p) L) cut-parameters _ (each cut-parameters refl)
+      (mapRes-numbered P (colours (word u p)) (bandsAt u (p + word u p) (p + 2)) (bands-with (p + word u p) (p + 2)))))
 
-  order-numbered : (p k : ℕ) → Numbered (orderAt u L p k)
+  order-with : (p k : ℕ) → RefusedWith P (orderAt u L p k)
   unfolding orderAt
-  order-numbered p k =
-      cond-numbered InTable (ltb k 7) _ _ (check-numbered InTable (leb (p + sizeOf (plainAt u p k)) L) cut-parameters (ok (plainAt u p k)) (in-table cut-parameters refl) tt)
-      (cond-numbered InTable (eqb k 7) (changeAt u L p) (refuse unknown-command) (change-numbered p) (in-table unknown-command refl))
+  order-with p k =
+      cond-numbered P (ltb k 7) _ _
+      (check-numbered P (leb (p + sizeOf (plainAt u p k)) L) cut-parameters (ok (plainAt u p k))
+      (each cut-parameters refl) tt)
+      (cond-numbered P (eqb k 7) (changeAt u L p) (refuse unknown-command) (change-with p) (each unknown-command refl))
 
-  command-numbered : (p : ℕ) → Numbered (commandAt u L p)
+  command-with : (p : ℕ) → RefusedWith P (commandAt u L p)
   unfolding commandAt
-  command-numbered p = mapRes-numbered InTable (command p) (orderAt u L (p + 1) (byte u p)) (order-numbered (p + 1) (byte u p))
+  command-with p = mapRes-numbered P (command p) (orderAt u L (p + 1) (byte u p)) (order-with (p + 1) (byte u p))
 
-  commands-numbered : L ≤ length u → (p : ℕ) → Numbered (commandsAt u L p)
+  commands-with : L ≤ length u → (p : ℕ) → RefusedWith P (commandsAt u L p)
   unfolding commandsAt
-  commands-numbered i p = list-numbered InTable (commandsStop u L) (commandAt u L) nextCommand (λ (q : ℕ). L - q) (command-falls u L i) (λ s h. command-numbered s) p
+  commands-with i p =
+      list-numbered P (commandsStop u L) (commandAt u L) nextCommand (λ (q : ℕ). L - q) (command-falls u L i)
+      (λ s h. command-with s) p
 
-  block-numbered : L ≤ length u → (p : ℕ) → Numbered (blockAt u L p)
+  block-with : L ≤ length u → (p : ℕ) → RefusedWith P (blockAt u L p)
   unfolding blockAt
-  block-numbered i p = mapRes-numbered InTable (block u p) (commandsAt u L (p + 4)) (commands-numbered i (p + 4))
+  block-with i p = mapRes-numbered P (block u p) (commandsAt u L (p + 4)) (commands-with i (p + 4))
 
-  blocks-numbered : L ≤ length u → (s : Option ℕ) → Numbered (blocksAt u L s)
+  blocks-with : L ≤ length u → (s : Option ℕ) → RefusedWith P (blocksAt u L s)
   unfolding blocksAt
-  blocks-numbered i s = list-numbered InTable (chainStop L) (chainBlock u L) chainNext (chainLeft L) (chain-falls u L i) each s
+  blocks-with i s = list-numbered P (chainStop L) (chainBlock u L) chainNext (chainLeft L) (chain-falls u L i) next s
     where
-      each : (s : Option ℕ) → chainStop L s ≡ false → Numbered (chainBlock u L s)
-      each none h = absurd (clash true refl h)
-      each (some p) h = block-numbered i p
+      next : (s : Option ℕ) → chainStop L s ≡ false → RefusedWith P (chainBlock u L s)
+      next none h = absurd (clash true refl h)
+      next (some p) h = block-with i p
 
-pub control-numbered : (u : List ℕ) → Numbered (controlAt u)
+pub control-with : (P : ℕ → Type 0) → AfterText P → (u : List ℕ) → RefusedWith P (controlAt u)
 unfolding controlAt chainAt headFits
-control-numbered u =
-    andThen-numbered InTable (chainAt u) _
-    (check-numbered InTable (leb 4 (length u)) no-head _ (in-table no-head refl)
-    (checked-numbered InTable (headFits u) bad-head _ (in-table bad-head refl)
-    (λ t. blocks-numbered u (lengthWord u) (leb-true _ _ (and-true (leb 4 (controlWord u) && leb (controlWord u) (lengthWord u)) (leb (lengthWord u) (length u)) t .1)) (some (controlWord u)))))
-    (λ bs. check-numbered InTable (hasArea (told bs)) no-area (ok bs) (in-table no-area refl) tt)
+control-with P each u =
+    andThen-numbered P (chainAt u) _
+    (check-numbered P (leb 4 (length u)) no-head _ (each no-head refl)
+    (checked-numbered P (headFits u) bad-head _ (each bad-head refl)
+    (λ t.
+    let fits =
+    and-true (leb 4 (controlWord u) && leb (controlWord u) (lengthWord u)) (leb (lengthWord u) (length u)) t in
+    blocks-with P each u (lengthWord u) (leb-true _ _ (fits .1)) (some (controlWord u)))))
+    (λ bs. check-numbered P (hasArea (told bs)) no-area (ok bs) (each no-area refl) tt)
 
 -- a unit with one byte of field, a block at 5 whose next word is n, and these bytes after its head
 abbrev unit : ℕ → List ℕ → List ℕ
@@ -113,11 +122,14 @@ orders = (refl, refl, refl, refl, refl, refl, refl, refl, refl, refl, refl, refl
 
 -- ---- With the limit of bands
 
-pub few-numbered : (u : List ℕ) → Numbered (fewAt u)
+pub few-with : (P : ℕ → Type 0) → AfterText P → (u : List ℕ) → RefusedWith P (fewAt u)
 unfolding fewAt
-few-numbered u =
-    andThen-numbered InTable (controlAt u) _ (control-numbered u)
-    (λ bs. check-numbered InTable (leb (length (told bs .bands)) most-bands) many-bands (ok bs) (in-table many-bands refl) tt)
+few-with P each u =
+    andThen-numbered P (controlAt u) _ (control-with P each u)
+    (λ bs. check-numbered P (leb (length (told bs .bands)) most-bands) many-bands (ok bs) (each many-bands refl) tt)
+
+pub few-numbered : (u : List ℕ) → Numbered (fewAt u)
+few-numbered = few-with InTable after-in-table
 
 -- a unit with one byte of field and a block at 5, whose first command is a colour change of 33 bands without entries; these bytes follow
 abbrev bands-33 : List ℕ → List ℕ

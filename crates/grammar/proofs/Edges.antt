@@ -214,7 +214,7 @@ least : Signed (45 ∷ near 56) (negsuc 9223372036854775807)
 unfolding numeral
 least = inr (near 56, 9223372036854775808, refl, near-digits 56 9223372036854775808 (2 ^ 63) refl refl (omega arith), refl)
 
-unsigned-within : (base top : ℕ) (s : List ℕ) (v : ℕ) → Unsigned base top s v → v ≤ top
+pub unsigned-within : (base top : ℕ) (s : List ℕ) (v : ℕ) → Unsigned base top s v → v ≤ top
 unsigned-within base top s v h = ⊎-elim (λ d. d .within) (λ d. d .2 .within) h
 
 minus-stays : (v : ℕ) → v ≤ 2 ^ 63 → Stays (negℤ (pos v))

@@ -18,4 +18,5 @@ pub mod Clipped
 pub mod IndexCards
 pub mod Times
 pub mod NoBytes
+pub mod Positions
 pub mod PaintCards

@@ -15,7 +15,7 @@ use borrow.Author.Tests.{lt-ltb, leb-true, eqb-true}
 use Rattle.grammar.specs.Bytes.{byte}
 use Rattle.grammar.specs.Parts.{Part}
 use Rattle.grammar.specs.IndexParts.{blank, line-end, All, Trimmed, Parted}
-use Rattle.grammar.specs.Index.{Said, size, palette, timestamp, SaysNothing, LinesListed, greysFrom, greys, ListedText, of-lines, no-bytes, IsText}
+use Rattle.grammar.specs.Index.{Said, size, palette, timestamp, SaysNothing, LinesListed, Low, greysFrom, greys, ListedText, of-lines, no-bytes, IsText}
 use Rattle.grammar.specs.IndexCues.{Cue, coloursOf, paletteFrom, first-palette, linesHavePalette, cuesOf, paletteOf, hasPalette, displaySize, sizeIs, cueAt, durationOf}
 use Rattle.grammar.specs.Packets.{Form, IsForm, unitOf, top-stream}
 use Rattle.grammar.specs.Record.{told}
@@ -99,7 +99,7 @@ low-blank b h = lt-ltb b 128 (go (leb 9 b) (leb b 13) refl (eqb b 32) refl h)
     go false true e t f k = omega (arith, eqb-true b 32 (f ∙ k))
     go false false e t f k = omega (arith, eqb-true b 32 (f ∙ k))
 
-pub low-blanks : (s : List ℕ) → All blank s → All (λ b. ltb b 128) s
+pub low-blanks : (s : List ℕ) → All blank s → Low s
 low-blanks [] h = tt
 low-blanks (b ∷ s) h = (low-blank b (h .0), low-blanks s (h .1))
 

@@ -101,6 +101,7 @@ stamped p =
       after-word = record { whole = refl; place = omega arith };
       trim-text = after-blank (p + 33) (p + 34) (48 ∷ []) (omega arith) refl refl;
       reads = inl (0, 48 ∷ [], (refl, λ w. not-empty 120 _ (tail-same 48 48 [] _ (w .1))), inl (record { some-digit = omega arith; all-digits = (refl, tt); number = refl; within = omega arith }));
+      stored = omega arith;
     }
 
 pub says : (p : ℕ) → Says (part p line) (said p)

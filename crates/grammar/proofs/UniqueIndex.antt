@@ -11,7 +11,7 @@ use lib.IntN.{ℤ, pos, negℤ}
 use Rattle.grammar.specs.Parts.{Part}
 use Rattle.grammar.specs.IndexParts.{parting, tokenByte, line-end, comma, colon, letter-x, All, Span, Trimmed, After}
 use Rattle.grammar.specs.IndexNumbers.{Valued, isDigit, Digits, Unsigned, Signed, Stripped, Hex, top-position, Position}
-use Rattle.grammar.specs.Index.{Said, size, palette, timestamp, size-word, palette-word, timestamp-word, IsSize, top-side, top-token, IsToken, Tokens, Fields, IsFilepos, IsOtherPart, filepos-word, IsTimestamp, Says, SaysNothing, LinesListed, IsLines, ListedText, of-lines, no-bytes, IsText}
+use Rattle.grammar.specs.Index.{Said, size, palette, timestamp, size-word, palette-word, timestamp-word, IsSize, top-side, top-token, IsToken, Tokens, Fields, IsFilepos, IsOtherPart, filepos-word, TimestampTo, top-stored, Says, SaysNothing, LinesListed, IsLines, ListedText, of-lines, no-bytes, IsText}
 use Rattle.grammar.proofs.UniqueParts.{never, not-empty, head-same, tail-same, all-rest, span-unique, trimmed-unique, all-trimmed-unique, has-separator, parted-unique, halves-unique, after-unique, first-unique, last-unique}
 
 -- ---- Numbers
@@ -157,8 +157,10 @@ pub record OneTimestamp (ps ps′ : List Part) (fs fs′ : List (Valued ℤ)) (n
   pub fields-same : fs ≡ fs′
   pub number-same : n ≡ n′
 
-timestamp-unique : (r : Part) (ps ps′ : List Part) (fs fs′ : List (Valued ℤ)) (n n′ : Valued ℕ) → IsTimestamp r ps fs n → IsTimestamp r ps′ fs′ n′ → OneTimestamp ps ps′ fs fs′ n n′
-timestamp-unique r ps ps′ fs fs′ n n′ h k =
+-- over both bounds: what is listed of a line does not depend on how large its position may be
+pub timestamp-unique : (top top′ : ℕ) (r : Part) (ps ps′ : List Part) (fs fs′ : List (Valued ℤ)) (n n′ : Valued ℕ)
+    → TimestampTo top r ps fs n → TimestampTo top′ r ps′ fs′ n′ → OneTimestamp ps ps′ fs fs′ n n′
+timestamp-unique top top′ r ps ps′ fs fs′ n n′ h k =
     let b : h .between ≡ k .between = parted-unique comma (r .place) (r .bytes) (h .between) (k .between) (h .by-commas) (k .by-commas) in
     let q : ps ≡ ps′ = all-trimmed-unique (h .between) ps ps′ (h .trimmed) (rw b (k .trimmed)) in
     let t : h .time ≡ k .time = first-unique IsOtherPart ps (h .time) (k .time) (h .first-other) (rw q (k .first-other)) in
@@ -175,7 +177,7 @@ timestamp-unique r ps ps′ fs fs′ n n′ h k =
 -- ---- Lines
 
 -- a line starts with one word
-other-word : (i r r′ : Part) (b c : ℕ) (s t : List ℕ) → (b ≡ c → ⊥) → After (b ∷ s) i r → After (c ∷ t) i r′ → ⊥
+pub other-word : (i r r′ : Part) (b c : ℕ) (s t : List ℕ) → (b ≡ c → ⊥) → After (b ∷ s) i r → After (c ∷ t) i r′ → ⊥
 other-word i r r′ b c s t d h k = d (head-same b c (s ++ r .bytes) (t ++ r′ .bytes) (sym (h .whole) ∙ k .whole))
 
 says-unique : (i : Part) (a b : Said) → Says i a → Says i b → a ≡ b
@@ -194,7 +196,7 @@ says-unique i (timestamp l ps fs n) (size l′ w v) h k = absurd (other-word i (
 says-unique i (timestamp l ps fs n) (palette l′ ts) h k = absurd (other-word i (h .1) (k .1) 116 112 _ _ (λ e. omega arith) (h .2) (k .2))
 says-unique i (timestamp l ps fs n) (timestamp l′ ps′ fs′ n′) h k =
     let r : h .1 ≡ k .1 = after-unique timestamp-word i (h .1) (k .1) (h .2) (k .2) in
-    let s = timestamp-unique (h .1) ps ps′ fs fs′ n n′ (h .3) (rw r (k .3)) in
+    let s = timestamp-unique top-stored top-stored (h .1) ps ps′ fs fs′ n n′ (h .3) (rw r (k .3)) in
     λ t. timestamp ((h .0 ∙ sym (k .0)) t) (s .parts-same t) (s .fields-same t) (s .number-same t)
 
 -- a line that says something does not say nothing

@@ -1,17 +1,17 @@
 -- The lines of the index text that say something, with their parts, tokens and numbers, and the text of no bytes
 -- (FORMAT 1). Conditions on a finished list of lines: every such line is listed, in turn, and none besides. They find
 -- none. Assumes nothing: these are definitions.
-use Prim.Native.Nat.{ℕ, zero, suc, _+_, _-_, _*_, _^_, _<_}
+use Prim.Native.Nat.{ℕ, zero, suc, _+_, _-_, _*_, _^_, _≤_, _<_}
 use mathlib.Core.Path.{_≡_}
 use mathlib.Core.Logic.{_⊎_}
-use mathlib.Core.List.{List, [], _∷_}
+use mathlib.Core.List.{List, [], _∷_, _++_}
 use lib.ListN.{length}
 use lib.Dec.{ltb}
 use lib.IntN.{ℤ, pos, _+ℤ_, _*ℤ_}
 use lib.Signed.{mag}
 use Rattle.grammar.specs.Parts.{Part}
 use Rattle.grammar.specs.IndexParts.{parting, tokenByte, unlike, line-end, comma, colon, letter-x, All, Span, Trimmed, AllTrimmed, Parted, StartsWith, After, Halves, First, Last}
-use Rattle.grammar.specs.IndexNumbers.{Valued, Unsigned, Signed, Hex, Position}
+use Rattle.grammar.specs.IndexNumbers.{Valued, Unsigned, Signed, Hex, top-position, Position}
 
 -- a line that says something: the trimmed line, and what of it is read
 pub data Said : Type 0 where
@@ -76,7 +76,7 @@ Tokens (suc n) at s (t ∷ ts) =
     × Hex top-token (t .part .bytes) (t .value)
     × Tokens n (t .part .place + length (t .part .bytes)) rest ts
 
--- ---- `timestamp:` (FORMAT 1.6, 1.7)
+-- ---- `timestamp:` (FORMAT 1.6 to 1.8)
 
 -- all fields, but n of them at most: each a signed number
 abbrev pub Fields : ℕ → List Part → List (Valued ℤ) → Type 0
@@ -123,8 +123,10 @@ IsFilepos p = StartsWith filepos-word (p .bytes)
 abbrev pub IsOtherPart : Part → Type 0
 IsOtherPart p = IsFilepos p → ⊥
 
--- r, which follows the word, has these parts; the first that gives no position is the time, the last that gives one the position
-pub record IsTimestamp (r : Part) (parts : List Part) (fields : List (Valued ℤ)) (number : Valued ℕ) : Type 0 where
+-- r, which follows the word, has these parts; the first that gives no position is the time, the last that gives one the
+-- position, whose number is at most top
+pub record TimestampTo (top : ℕ) (r : Part) (parts : List Part) (fields : List (Valued ℤ)) (number : Valued ℕ)
+    : Type 0 where
   pub between : List Part
   pub by-commas : Parted comma (r .place) (r .bytes) between
   pub trimmed : AllTrimmed between parts
@@ -140,6 +142,25 @@ pub record IsTimestamp (r : Part) (parts : List Part) (fields : List (Valued ℤ
   pub after-word : After filepos-word position text
   pub trim-text : Trimmed text (number .part)
   pub reads : Position (number .part .bytes) (number .value)
+  pub stored : number .value ≤ top
+
+-- the largest position that is stored, of 32 bits (FORMAT 1.8). How a position is read has a bound of its own,
+-- `top-position`: digits above this one are not read again as a decimal number
+abbrev pub top-stored : ℕ
+top-stored = 2 ^ 32 - 1
+
+abbrev pub IsTimestamp : Part → List Part → List (Valued ℤ) → Valued ℕ → Type 0
+IsTimestamp r ps fs n = TimestampTo top-stored r ps fs n
+
+-- the trimmed line i is a timestamp within 64 bits, and its position is above what is stored
+pub record LargePosition (i : Part) : Type 0 where
+  pub rest : Part
+  pub after-word : After timestamp-word i rest
+  pub parts : List Part
+  pub fields : List (Valued ℤ)
+  pub number : Valued ℕ
+  pub reads : TimestampTo top-position rest parts fields number
+  pub above : top-stored < number .value
 
 -- ---- Lines (FORMAT 1.2)
 
@@ -163,12 +184,32 @@ LinesListed (p ∷ ps) [] = (i : Part) × Trimmed p i × SaysNothing i × LinesL
 LinesListed (p ∷ ps) (l ∷ ls) =
     (i : Part) × Trimmed p i × ((SaysNothing i × LinesListed ps (l ∷ ls)) ⊎ (Says i l × LinesListed ps ls))
 
--- the text has these lines (FORMAT 1.1, 1.2)
+-- every byte of the text is below `80` (FORMAT 1.1)
+abbrev pub Low : List ℕ → Type 0
+Low text = All (λ b. ltb b 128) text
+
+-- the text has these lines (FORMAT 1.2)
 pub record IsLines (text : List ℕ) (lines : List Said) : Type 0 where
-  pub low : All (λ b. ltb b 128) text
+  pub low : Low text
   pub all-lines : List Part
   pub parted : Parted line-end 0 text all-lines
   pub listed : LinesListed all-lines lines
+
+-- a line of the text has a position above what is stored
+pub record LargeIn (text : List ℕ) : Type 0 where
+  pub front : List Part
+  pub line : Part
+  pub back : List Part
+  pub parted : Parted line-end 0 text (front ++ line ∷ back)
+  pub trimmed : Part
+  pub trims : Trimmed line trimmed
+  pub large : LargePosition trimmed
+
+-- and it is the first that is at fault, in a text of bytes below `80`: those before it list this (FORMAT 1.11)
+pub record FirstLarge (text : List ℕ) (before : List Said) : Type 0 where
+  pub there : LargeIn text
+  pub low : Low text
+  pub listed : LinesListed (there .front) before
 
 -- ---- The text
 

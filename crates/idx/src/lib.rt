@@ -117,7 +117,7 @@ fn with_palette(seen: Seen, any: bool) -> Seen
     s
 }
 
-fn with_cue(seen: Seen, start: i64, position: u64, cue: usize) -> Seen
+fn with_cue(seen: Seen, start: i64, position: u32, cue: usize) -> Seen
     requires { ⌜ seen .cues + 1 < 2 ^ 64 ⌝ }
     ensures { λ r. ⌜ r ≡ seeCue cue seen start position ⌝ }
 {
@@ -248,7 +248,7 @@ fn shorter(a: usize, b: usize) -> usize
 }
 
 // A line's cue, if it has one, stored as cue n; how many there are then.
-fn store_cue(line: Line, n: usize, starts: &mut [i64], positions: &mut [u64]) -> usize
+fn store_cue(line: Line, n: usize, starts: &mut [i64], positions: &mut [u32]) -> usize
     requires { ⌜ CueFits line n (length (now starts)) (length (now positions)) ⌝ }
     ensures { λ r. ⌜ CueStored line n (now (starts .entry)) (now (positions .entry)) r (now (starts .exit)) (now (positions .exit)) ⌝ }
 {
@@ -266,7 +266,7 @@ fn store_cue(line: Line, n: usize, starts: &mut [i64], positions: &mut [u64]) ->
 }
 
 // The cues of a text that was measured, stored from the front of both buffers on.
-fn fill(text: &[u8], starts: &mut [i64], positions: &mut [u64])
+fn fill(text: &[u8], starts: &mut [i64], positions: &mut [u32])
     requires { ⌜ IsOk (linesWith (now starts) (now positions) (now text)) ⌝ }
     ensures { λ r. ⌜ CuesStored (linesWith (now (starts .entry)) (now (positions .entry)) (now (text .entry))) (now (starts .entry)) (now (positions .entry)) (now (starts .exit)) (now (positions .exit)) ⌝ }
 {
@@ -286,7 +286,7 @@ fn fill(text: &[u8], starts: &mut [i64], positions: &mut [u64])
 }
 
 // The cues of a text that was measured, with a byte or without.
-fn fill_idx(text: &[u8], starts: &mut [i64], positions: &mut [u64])
+fn fill_idx(text: &[u8], starts: &mut [i64], positions: &mut [u32])
     requires { ⌜ IsOk (idxWith (now starts) (now positions) (now text)) ⌝ }
     ensures { λ r. ⌜ IdxStored (now (text .entry)) (now (starts .entry)) (now (positions .entry)) (now (starts .exit)) (now (positions .exit)) ⌝ }
 {
@@ -328,7 +328,7 @@ fn accepted_idx(seen: Seen, palette: [u8; 48]) -> IdxAnswer
 // refused, in turn with the other faults of its line and of the lines before it; on a refusal both buffers are as found. A text of no
 // bytes is one cue, in greys.
 // Ruled out: a later fault answered, and a cue stored on a refusal.
-pub fn parse_idx(text: &[u8], starts: &mut [i64], positions: &mut [u64]) -> IdxAnswer
+pub fn parse_idx(text: &[u8], starts: &mut [i64], positions: &mut [u32]) -> IdxAnswer
     ensures { λ r. ⌜ IdxRead (now (text .entry)) (now (starts .entry)) (now (positions .entry)) r (now (starts .exit)) (now (positions .exit)) × IdxSays (now (text .entry)) (now (starts .entry)) (now (positions .entry)) r (now (starts .exit)) (now (positions .exit)) ⌝ }
 {
     let room = shorter(starts.len(), positions.len());

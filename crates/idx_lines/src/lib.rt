@@ -25,6 +25,7 @@ use outcome::BAD_POSITION;
 use outcome::BAD_TIME;
 use outcome::BAD_TOKEN;
 use outcome::BAD_WIDTH;
+use outcome::LARGE_POSITION;
 use outcome::LONG_TIME;
 use outcome::NO_POSITION;
 use outcome::NO_TIME;
@@ -41,6 +42,9 @@ ghost use Rattle.idx_numbers_model.specs.Parts.{part, split};
 ghost use Rattle.idx_lines_model.specs.Lines.{halves, sizeOr, timestampAt};
 ghost use Rattle.idx_lines_model.specs.Answers;
 ghost use Rattle.idx_lines_model.specs.Answers.{lineSays, lean, FoundIn, CountedAt, FrontBelow, FieldAt, timeSays, timeAt, positionWith, rgb, TokensRead, LineRead};
+
+// The largest position that is stored.
+const TOP_STORED: u64 = 4294967295;
 
 // What follows `size:`.
 fn parse_size(s: &[u8]) -> Line
@@ -271,16 +275,21 @@ fn parse_time(t: &[u8]) -> Time
     }
 }
 
-// The position, from a trimmed part that starts `filepos:`, beside the time.
+// The position, from a trimmed part that starts `filepos:`, beside the time. It is read as a number of 64 bits first:
+// with the smaller bound there, hexadecimal digits above it would be read as a decimal number.
 fn with_position(z: i64, p: &[u8]) -> Line
     requires { ⌜ 8 ≤ length (now p) ⌝ }
     ensures { λ r. ⌜ lineSays r ≡ positionWith z (drop 8 (now (p .entry))) ⌝ }
 {
     let x = trim(&p[8..]);
-    match parse_position(x) {
-        Number::Bad => Line::Refused(BAD_POSITION),
-        Number::Is(v) => Line::Cue(z, v),
+    let Number::Is(v) = parse_position(x) else {
+        return Line::Refused(BAD_POSITION);
+    };
+    if v > TOP_STORED {
+        return Line::Refused(LARGE_POSITION);
     }
+    let position = v as u32;
+    Line::Cue(z, position)
 }
 
 // What follows `timestamp:`.

@@ -1,23 +1,25 @@
 -- A line: the definition finds exactly what the grammar lists. Assumes nothing.
-use Prim.Native.Nat.{ℕ, zero, suc, _+_, _-_, _*_}
+use Prim.Native.Nat.{ℕ, zero, suc, _+_, _-_, _*_, _≤_, _<_}
 use mathlib.Core.Path.{_≡_, refl, sym, ap, _∙_, subst}
 use mathlib.Core.Bool.{Bool, true, false, cond}
 use mathlib.Core.Logic.{_⊎_, inl, inr, ⊎-elim}
 use mathlib.Core.Option.{Option, some, none}
-use mathlib.Core.List.{List, [], _∷_, _++_, append-nil, map}
+use mathlib.Core.List.{List, [], _∷_, _++_, append-nil}
 use native.Mathlib.Omega.{arith}
+use lib.Dec.{leb}
 use lib.ListN.{length}
 use lib.IntN.{ℤ, pos, _*ℤ_}
-use borrow.Author.Tests.{eq-eqb, not-true, not-false}
-use Rattle.outcome.specs.Outcome.{Res, ok, andThen, need, check, no-time, no-position, bad-time, long-time, bad-position, bad-width, bad-height, bad-token}
-use Rattle.grammar.specs.Index.{Said, size, palette, timestamp, IsSize, IsToken, Tokens, Fields, field, minutes, seconds, startOf, Stays, Steps, IsFilepos, IsTimestamp, Says, SaysNothing, size-word, palette-word, timestamp-word, filepos-word, top-side, top-token, IsOtherPart}
-use Rattle.grammar.specs.IndexNumbers.{Valued, Hex}
+use borrow.Author.Tests.{eq-eqb, le-leb, lt-leb, leb-true, leb-false, not-true, not-false}
+use Rattle.outcome.specs.Outcome.{Res, ok, refuse, andThen, need, check, no-time, no-position, bad-time, long-time, bad-position, large-position, bad-width, bad-height, bad-token}
+use Rattle.grammar.specs.Index.{Said, size, palette, timestamp, IsSize, IsToken, Tokens, Fields, field, minutes, seconds, startOf, Steps, IsFilepos, TimestampTo, top-stored, IsTimestamp, LargePosition, Says, SaysNothing, size-word, palette-word, timestamp-word, filepos-word, top-side, top-token, IsOtherPart}
+use Rattle.grammar.specs.IndexNumbers.{Valued, Hex, top-position}
 use Rattle.grammar.specs.IndexParts.{parting, tokenByte, unlike, All, Span, StartsWith, Halves, First, NoneOf, Last, comma, colon, letter-x}
 use Rattle.grammar.specs.Parts.{Part}
 use Rattle.idx_numbers_model.specs.Numbers.{unsigned, signed, bare, hex, orElse, positionOf}
 use Rattle.idx_numbers_model.specs.Parts.{part, valued, front, rest, trim, split, strip, after, found}
 use Rattle.idx_lines_model.specs.Lines.{Two, halved, halves, sizeOr, consWith, tokenAnd, tokens, fields, steps, firstOf, lastOf, isFilepos, timestampAt, byWord, lineOf, isOther, partsAt, positionAt}
 use Rattle.clock_model.specs.Sums.{stays}
+use Rattle.grammar.proofs.Positions.{position-within}
 use Rattle.outcome.proofs.Laws.{ok-injective, ok-not-refuse, check-ok, and-true}
 use Rattle.clock_model.proofs.Clock.{stays-is, is-stays}
 use Rattle.idx_numbers_model.proofs.Grammar.{never, same-part, span-is, span-one, trim-is, trim-one, split-is, split-one, strip-on, strip-is, strip-none, none-strip, after-iff, unsigned-is, unsigned-one, signed-is, signed-one, hex-iff, position-iff, trims-is, trims-one}
@@ -30,6 +32,17 @@ given n (some a) k e f = f a refl e
 
 pub checked : {B C : Type 0} {b : B} (n : ℕ) (t : Bool) (r : Res B) → check t n r ≡ ok b → (t ≡ true → r ≡ ok b → C) → C
 checked n t r e f = let w = check-ok t n r e in f (w .0) (w .1)
+
+-- and it was refused where a step was, or what followed
+lost : {A B C : Type 0} (n m : ℕ) (o : Option A) (k : A → Res B) → andThen (need n o) k ≡ refuse m
+    → (n ≡ m → C) → ((a : A) → o ≡ some a → k a ≡ refuse m → C) → C
+lost n m none k e f g = f (cc)
+lost n m (some a) k e f g = g a refl e
+
+pub unchecked : {B C : Type 0} (n m : ℕ) (t : Bool) (r : Res B) → check t n r ≡ refuse m
+    → (t ≡ false → n ≡ m → C) → (t ≡ true → r ≡ refuse m → C) → C
+unchecked n m true r e f g = g refl e
+unchecked n m false r e f g = f refl (cc)
 
 -- ---- size
 other-self : (sep : ℕ) → unlike sep sep ≡ false
@@ -295,44 +308,80 @@ other-yes p e = filepos-no p (not-true (isFilepos p) e)
 other-no : (p : Part) → isOther p ≡ false → IsOtherPart p → ⊥
 other-no p e h = h (filepos-yes p (not-false (isFilepos p) e))
 
+-- what each step found is a timestamp, within any bound that the position keeps
+timestamp-read : (top : ℕ) (r t p : Part) (fs : List (Valued ℤ)) (x : Part) (v : ℕ)
+    → firstOf isOther (partsAt (r .place) (r .bytes)) ≡ some t
+    → lastOf isFilepos (partsAt (r .place) (r .bytes)) ≡ some p → fields 4 (split colon (t .place) (t .bytes)) ≡ some fs
+    → steps fs ≡ true → after filepos-word p ≡ some x → positionOf (trim x .bytes) ≡ some v → v ≤ top
+    → TimestampTo top r (partsAt (r .place) (r .bytes)) fs (valued (trim x) v)
+unfolding partsAt
+timestamp-read top r t p fs x v q₁ q₂ q₃ q₄ q₅ q₆ q₇ =
+    record {
+      between = split comma (r .place) (r .bytes);
+      by-commas = split-is comma (r .place) (r .bytes);
+      trimmed = trims-is (split comma (r .place) (r .bytes));
+      time = t;
+      first-other = first-is IsOtherPart isOther other-yes other-no (partsAt (r .place) (r .bytes)) t q₁;
+      position = p;
+      last-filepos = last-is IsFilepos isFilepos filepos-yes filepos-no (partsAt (r .place) (r .bytes)) p q₂;
+      all-fields = split colon (t .place) (t .bytes);
+      by-colons = split-is colon (t .place) (t .bytes);
+      first-four = fields-is 4 (split colon (t .place) (t .bytes)) fs q₃;
+      steps = steps-is fs q₄;
+      text = x;
+      after-word = after-iff filepos-word p x .0 q₅;
+      trim-text = trim-is x;
+      reads = position-iff (trim x .bytes) v .0 q₆;
+      stored = q₇;
+    }
+
 pub timestamp-is : (i r : Part) (o : Option Said) → timestampAt i r ≡ ok o
     → (ps : List Part) × (fs : List (Valued ℤ)) × (n : Valued ℕ) × (o ≡ some (timestamp i ps fs n)) × IsTimestamp r ps fs n
-unfolding partsAt
 timestamp-is i r o e =
-    let ps : List Part = map trim (split comma (r .place) (r .bytes)) in
+    let ps : List Part = partsAt (r .place) (r .bytes) in
     given no-time (firstOf isOther ps) _ e (λ t q₁ e₁.
     given no-position (lastOf isFilepos ps) _ e₁ (λ p q₂ e₂.
     given bad-time (fields 4 (split colon (t .place) (t .bytes))) _ e₂ (λ fs q₃ e₃.
     checked long-time (steps fs) (positionAt i ps fs p) e₃ (λ q₄ e₄.
     given bad-position (after filepos-word p) _ e₄ (λ x q₅ e₅.
-    given bad-position (positionOf (trim x .bytes)) _ e₅ (λ v q₆ e₆. (
+    given bad-position (positionOf (trim x .bytes)) _ e₅ (λ v q₆ e₆.
+    checked large-position (leb v top-stored) (ok (some (timestamp i ps fs (valued (trim x) v)))) e₆ (λ q₇ e₇. (
       ps,
       fs,
       valued (trim x) v,
-      sym (ok-injective e₆),
-      record {
-        between = split comma (r .place) (r .bytes);
-        by-commas = split-is comma (r .place) (r .bytes);
-        trimmed = trims-is (split comma (r .place) (r .bytes));
-        time = t;
-        first-other = first-is IsOtherPart isOther other-yes other-no ps t q₁;
-        position = p;
-        last-filepos = last-is IsFilepos isFilepos filepos-yes filepos-no ps p q₂;
-        all-fields = split colon (t .place) (t .bytes);
-        by-colons = split-is colon (t .place) (t .bytes);
-        first-four = fields-is 4 (split colon (t .place) (t .bytes)) fs q₃;
-        steps = steps-is fs q₄;
-        text = x;
-        after-word = after-iff filepos-word p x .0 q₅;
-        trim-text = trim-is x;
-        reads = position-iff (trim x .bytes) v .0 q₆;
-      },
-    )))))))
+      sym (ok-injective e₇),
+      timestamp-read top-stored r t p fs x v q₁ q₂ q₃ q₄ q₅ q₆ (leb-true v top-stored q₇),
+    ))))))))
 
-pub timestamp-one : (i r : Part) (ps : List Part) (fs : List (Valued ℤ)) (n : Valued ℕ) → IsTimestamp r ps fs n
-    → timestampAt i r ≡ ok (some (timestamp i ps fs n))
+-- refused with 41: it is a timestamp in all but the bound
+timestamp-large : (i r : Part) → timestampAt i r ≡ refuse large-position
+    → (ps : List Part) × (fs : List (Valued ℤ)) × (n : Valued ℕ) × TimestampTo top-position r ps fs n
+    × (top-stored < n .value)
+timestamp-large i r e =
+    let ps : List Part = partsAt (r .place) (r .bytes) in
+    lost no-time large-position (firstOf isOther ps) _ e (λ z. absurd (omega arith)) (λ t q₁ e₁.
+    lost no-position large-position (lastOf isFilepos ps) _ e₁ (λ z. absurd (omega arith)) (λ p q₂ e₂.
+    lost bad-time large-position (fields 4 (split colon (t .place) (t .bytes))) _ e₂ (λ z. absurd (omega arith))
+    (λ fs q₃ e₃.
+    unchecked long-time large-position (steps fs) (positionAt i ps fs p) e₃ (λ q₄ z. absurd (omega arith)) (λ q₄ e₄.
+    lost bad-position large-position (after filepos-word p) _ e₄ (λ z. absurd (omega arith)) (λ x q₅ e₅.
+    lost bad-position large-position (positionOf (trim x .bytes)) _ e₅ (λ z. absurd (omega arith)) (λ v q₆ e₆.
+    unchecked large-position large-position (leb v top-stored) (ok (some (timestamp i ps fs (valued (trim x) v)))) e₆
+    (λ q₇ z. (
+      ps,
+      fs,
+      valued (trim x) v,
+      timestamp-read top-position r t p fs x v q₁ q₂ q₃ q₄ q₅ q₆
+          (position-within (trim x .bytes) v (position-iff (trim x .bytes) v .0 q₆)),
+      leb-false v top-stored q₇,
+    )) (λ q₇ f. ok-not-refuse (sym f))))))))
+
+-- a timestamp within any bound is found, and then asked whether it is too large
+timestamp-found : (top : ℕ) (i r : Part) (ps : List Part) (fs : List (Valued ℤ)) (n : Valued ℕ)
+    → TimestampTo top r ps fs n
+    → timestampAt i r ≡ check (leb (n .value) top-stored) large-position (ok (some (timestamp i ps fs n)))
 unfolding partsAt
-timestamp-one i r ps fs n h =
+timestamp-found top i r ps fs n h =
     rw (
       split-one comma (r .place) (r .bytes) (h .between) (h .by-commas),
       trims-one (h .between) ps (h .trimmed),
@@ -345,6 +394,10 @@ timestamp-one i r ps fs n h =
       trim-one (h .text) (n .part) (h .trim-text),
       position-iff (n .part .bytes) (n .value) .1 (h .reads),
     )
+
+pub timestamp-one : (i r : Part) (ps : List Part) (fs : List (Valued ℤ)) (n : Valued ℕ) → IsTimestamp r ps fs n
+    → timestampAt i r ≡ ok (some (timestamp i ps fs n))
+timestamp-one i r ps fs n h = timestamp-found top-stored i r ps fs n h ∙ rw (le-leb (n .value) top-stored (h .stored))
 
 -- ---- a line
 abbrev pub SaysThis : Part → Option Said → Type 0
@@ -388,3 +441,42 @@ line-one i (some (timestamp l ps fs n)) k =
     let a : after size-word i ≡ none = rw (k .2 .whole) refl in
     let b : after palette-word i ≡ none = rw (k .2 .whole) refl in
     rw (a, b, after-iff timestamp-word i (k .1) .1 (k .2), k .0) (timestamp-one i (k .1) ps fs n (k .3))
+
+-- a line is refused with 41 exactly where it is a timestamp whose position is too large
+pub line-large : (i : Part) → lineOf i ≡ refuse large-position → LargePosition i
+unfolding lineOf
+line-large i e = go (after size-word i) (after palette-word i) (after timestamp-word i) refl e
+  where
+    sides : (t : Option Two) → sizeOr i t ≡ refuse large-position → ⊥
+    sides none e = ok-not-refuse (sym e)
+    sides (some t) e =
+        lost bad-width large-position (unsigned 10 top-side (trim (t .left) .bytes)) _ e (λ z. omega arith) (λ w q₁ e₁.
+        lost bad-height large-position (unsigned 10 top-side (trim (t .right) .bytes)) _ e₁ (λ z. omega arith)
+        (λ h q₂ e₂. ok-not-refuse (sym e₂)))
+
+    go : (a b c : Option Part) → after timestamp-word i ≡ c → byWord i a b c ≡ refuse large-position → LargePosition i
+    go (some r) b c s e = absurd (sides (halves letter-x r) e)
+    go none (some r) c s e =
+        lost bad-token large-position (tokens 16 (r .place) (r .bytes)) _ e (λ z. absurd (omega arith))
+        (λ ts q₁ e₁. ok-not-refuse (sym e₁))
+    go none none (some r) s e =
+        let k = timestamp-large i r e in
+        record {
+          rest = r;
+          after-word = after-iff timestamp-word i r .0 s;
+          parts = k .0;
+          fields = k .1;
+          number = k .2;
+          reads = k .3;
+          above = k .4;
+        }
+    go none none none s e = ok-not-refuse (sym e)
+
+pub large-line : (i : Part) → LargePosition i → lineOf i ≡ refuse large-position
+unfolding lineOf strip
+large-line i h =
+    let a : after size-word i ≡ none = rw (h .after-word .whole) refl in
+    let b : after palette-word i ≡ none = rw (h .after-word .whole) refl in
+    rw (a, b, after-iff timestamp-word i (h .rest) .1 (h .after-word))
+    (timestamp-found top-position i (h .rest) (h .parts) (h .fields) (h .number) (h .reads)
+    ∙ rw (lt-leb (h .number .value) top-stored (h .above)))

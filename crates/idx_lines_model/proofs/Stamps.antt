@@ -1,15 +1,17 @@
 -- The arms of `parse_timestamp`, over plain variables. Assumes nothing.
-use Prim.Native.Nat.{ℕ, _+_, _-_, _≤_}
+use Prim.Native.Nat.{ℕ, _+_, _-_, _≤_, _<_}
 use mathlib.Core.Path.{_≡_, refl, sym, ap, _∙_}
 use mathlib.Core.Bool.{Bool, true, false, cond}
 use mathlib.Core.Option.{Option, some, none}
 use mathlib.Core.List.{List, [], _∷_}
 use native.Mathlib.Omega.{arith}
+use lib.Dec.{leb}
 use lib.ListN.{length, drop, take, length-drop}
 use lib.Seq.{take-all}
 use lib.IntN.{ℤ}
-use Rattle.outcome.specs.Outcome.{Res, ok, refuse, andThen, need, check, bad-time, long-time, bad-position, no-time, no-position}
-use Rattle.grammar.specs.Index.{Said, timestamp, startOf, filepos-word}
+use borrow.Author.Tests.{le-leb, lt-leb}
+use Rattle.outcome.specs.Outcome.{Res, ok, refuse, andThen, need, check, bad-time, long-time, bad-position, large-position, no-time, no-position}
+use Rattle.grammar.specs.Index.{Said, timestamp, startOf, filepos-word, top-stored}
 use Rattle.grammar.specs.IndexNumbers.{Valued}
 use Rattle.grammar.specs.IndexParts.{colon}
 use Rattle.grammar.specs.Parts.{Part}
@@ -112,9 +114,21 @@ module _ (s : List ℕ) (f : Found) (told : FoundIn s f) (i : Part) (at : ℕ) w
       tail-is : (ps : List Part) (fs : List (Valued ℤ)) → lean (positionAt i ps fs (place-of .0)) ≡ positionWith (startOf fs) (drop 8 place)
       tail-is ps fs = rw after-is (go (positionOf (trim text .bytes)) ∙ ap (λ (l : List ℕ). positionThen (startOf fs) (positionOf l)) text-is)
         where
-          go : (o : Option ℕ) → lean (andThen (need bad-position o) (λ v. ok (some (timestamp i ps fs (valued (trim text) v))))) ≡ positionThen (startOf fs) o
+          placed : ℕ → Said
+          placed v = timestamp i ps fs (valued (trim text) v)
+
+          within : (v : ℕ) (b : Bool)
+              → lean (check b large-position (ok (some (placed v))))
+              ≡ check b large-position (ok (some (cued (startOf fs) v)))
+          within v true = refl
+          within v false = refl
+
+          go : (o : Option ℕ)
+              → lean
+              (andThen (need bad-position o) (λ v. check (leb v top-stored) large-position (ok (some (placed v)))))
+              ≡ positionThen (startOf fs) o
           go none = refl
-          go (some v) = refl
+          go (some v) = within v (leb v top-stored)
 
       module _ (n : Time) (read : (k : ℕ) → timeSays n ≡ timeAt (split colon k (take (f .«time_to» - f .«time_from») (drop (f .«time_from») s)))) where
         whole : andThen (timeSays n) (λ z. positionWith z (drop 8 place)) ≡ lean (timestampAt i (part at s))
@@ -145,5 +159,8 @@ module _ (y z : ℤ) (as-read : y ≡ z) (p x : List ℕ) (n : Number) (cut : x 
   pub beside-bad : n ≡ Bad → refuse bad-position ≡ positionWith z (drop 8 p)
   beside-bad e = rw (← read′, e)
 
-  pub beside-good : (v : ℕ) → n ≡ Is v → ok (some (cued y v)) ≡ positionWith z (drop 8 p)
-  beside-good v e = rw (← read′, e, as-read)
+  pub beside-large : (v : ℕ) → n ≡ Is v → top-stored < v → refuse large-position ≡ positionWith z (drop 8 p)
+  beside-large v e h = rw (← read′, e, lt-leb v top-stored h)
+
+  pub beside-good : (v : ℕ) → n ≡ Is v → v ≤ top-stored → ok (some (cued y v)) ≡ positionWith z (drop 8 p)
+  beside-good v e h = rw (← read′, e, le-leb v top-stored h, as-read)

@@ -7,10 +7,10 @@ use mathlib.Core.List.{List, [], _∷_}
 use lib.Dec.{leb}
 use lib.ListN.{length, getD, take, drop}
 use lib.IntN.{ℤ, pos}
-use Rattle.outcome.specs.Outcome.{Res, ok, refuse, check, need, andThen, mapRes, bad-time, long-time, bad-position}
+use Rattle.outcome.specs.Outcome.{Res, ok, refuse, check, need, andThen, mapRes, bad-time, long-time, bad-position, large-position}
 use Rattle.grammar.specs.Parts.{Part}
 use Rattle.grammar.specs.IndexParts.{unlike, colon}
-use Rattle.grammar.specs.Index.{Said, size, palette, timestamp, startOf}
+use Rattle.grammar.specs.Index.{Said, size, palette, timestamp, top-stored, startOf}
 use Rattle.grammar.specs.IndexCues.{some-token, paletteFrom}
 use Rattle.idx_numbers_model.specs.Parts.{part, front, trimmed, split}
 use Rattle.idx_numbers_model.specs.Numbers.{digits, signed, positionOf}
@@ -157,7 +157,7 @@ timeSays (time.Is z) = ok z
 -- the position after `filepos:`, beside the time
 abbrev pub positionThen : ℤ → Option ℕ → Res (Option Value)
 positionThen z none = refuse bad-position
-positionThen z (some v) = ok (some (cued z v))
+positionThen z (some v) = check (leb v top-stored) large-position (ok (some (cued z v)))
 
 abbrev pub positionWith : ℤ → List ℕ → Res (Option Value)
 positionWith z s = positionThen z (positionOf (trimmed s))

@@ -4,13 +4,14 @@ use Prim.Native.Nat.{ℕ, zero, suc, _+_}
 use mathlib.Core.Bool.{Bool, not, cond, _&&_}
 use mathlib.Core.Option.{Option, some, none}
 use mathlib.Core.List.{List, [], _∷_, map}
+use lib.Dec.{leb}
 use lib.ListN.{length}
 use lib.IntN.{ℤ, pos, _*ℤ_}
-use Rattle.outcome.specs.Outcome.{Res, ok, check, need, andThen, bad-width, bad-height, bad-token, no-time, no-position, bad-time, long-time, bad-position}
+use Rattle.outcome.specs.Outcome.{Res, ok, check, need, andThen, bad-width, bad-height, bad-token, no-time, no-position, bad-time, long-time, bad-position, large-position}
 use Rattle.grammar.specs.Parts.{Part}
 use Rattle.grammar.specs.IndexParts.{parting, tokenByte, unlike, comma, colon, letter-x}
 use Rattle.grammar.specs.IndexNumbers.{Valued}
-use Rattle.grammar.specs.Index.{Said, size, palette, timestamp, size-word, palette-word, timestamp-word, filepos-word, top-side, top-token, field, minutes, seconds, startOf}
+use Rattle.grammar.specs.Index.{Said, size, palette, timestamp, size-word, palette-word, timestamp-word, filepos-word, top-side, top-token, top-stored, field, minutes, seconds, startOf}
 use Rattle.clock_model.specs.Sums.{stays}
 use Rattle.idx_numbers_model.specs.Parts.{part, valued, front, rest, trim, split, after, starts}
 use Rattle.idx_numbers_model.specs.Numbers.{unsigned, signed, hex, orElse, positionOf}
@@ -94,11 +95,13 @@ isOther p = not (isFilepos p)
 unfoldable pub partsAt : ℕ → List ℕ → List Part
 partsAt at s = map trim (split comma at s)
 
--- the position, after a time with these fields; ps are the parts of the line i
+-- the position, after a time with these fields; ps are the parts of the line i. Whether it is too large is asked of the
+-- number that was read
 abbrev pub positionAt : Part → List Part → List (Valued ℤ) → Part → Res (Option Said)
 positionAt i ps fs p =
     andThen (need bad-position (after filepos-word p))
-    (λ x. andThen (need bad-position (positionOf (trim x .bytes))) (λ v. ok (some (timestamp i ps fs (valued (trim x) v)))))
+    (λ x. andThen (need bad-position (positionOf (trim x .bytes)))
+    (λ v. check (leb v top-stored) large-position (ok (some (timestamp i ps fs (valued (trim x) v))))))
 
 abbrev pub timestampOf : Part → List Part → Res (Option Said)
 timestampOf i ps =

@@ -10,7 +10,7 @@ pub enum Line {
     // Colours of the palette, which stand in it; whether there is any.
     Coloured(bool),
     // Start and position.
-    Cue(i64, u64),
+    Cue(i64, u32),
 }
 
 // The parts of a timestamp that count: where the time and the position start and end, trimmed.

@@ -5,13 +5,14 @@ use mathlib.Core.Bool.{true, false}
 use mathlib.Core.Option.{some, none}
 use mathlib.Core.List.{[], _∷_}
 use lib.IntN.{pos}
-use Rattle.outcome.specs.Outcome.{ok, refuse, mapRes, short-cues, no-cue}
+use Rattle.outcome.specs.Outcome.{ok, refuse, mapRes, large-position, short-cues, no-cue}
 use Rattle.grammar.specs.IndexNumbers.{numeral}
 use Rattle.grammar.specs.Index.{startOf, greysFrom}
 use Rattle.grammar.specs.IndexCues.{cuesOfLines, cueAt, durationOf}
 use Rattle.idx_numbers_model.specs.Parts.{strip, trim, front, rest, shorn, split, all}
 use Rattle.idx_numbers_model.specs.Numbers.{unsigned, signed, bare}
 use Rattle.idx_lines_model.specs.Lines.{lineOf, partsAt, firstOf, lastOf, fields, steps}
+use Rattle.idx_lines_model.proofs.Cards.{past-stored, stamp}
 use Rattle.grammar.specs.Record.{given}
 use Rattle.clock_model.specs.Answers.{micros}
 use Rattle.idx_model.specs.Text.{roomAfter, linesIn, textIn, idxIn, idxOf}
@@ -35,6 +36,11 @@ last-duration = refl
 pub duration-given :
     (given {A = ℕ} none ≡ false) × (given {A = ℕ} (some 7) ≡ true) × (orZero none ≡ 0) × (orZero (some 7) ≡ 7)
 duration-given = (refl, refl, refl, refl)
+
+-- `timestamp:0,filepos:100000000`, and no place: 41, and not 10
+pub large-without-place : idxIn (some 0) (stamp past-stored) ≡ refuse large-position
+unfolding idxIn textIn linesIn lineOf strip trim front rest shorn split partsAt firstOf lastOf fields steps unsigned signed bare all numeral startOf
+large-without-place = refl
 
 -- no bytes and a place in both buffers: one cue, in greys that no line gives
 pub empty-read :

@@ -36,22 +36,24 @@ count (some (size l w h)) ls = omega arith
 count (some (palette l ts)) ls = omega arith
 count (some (timestamp l ps fs n)) ls = omega arith
 
-room-next : (room : Option ℕ) (k : ℕ) (o : Option Said) → Roomy room k → roomFor room k o ≡ true → Roomy room (k + cuesIn o)
+pub room-next : (room : Option ℕ) (k : ℕ) (o : Option Said) → Roomy room k → roomFor room k o ≡ true
+    → Roomy room (k + cuesIn o)
 room-next none k o r e = tt
 room-next (some n) k none r e = omega arith
 room-next (some n) k (some (size l w h)) r e = omega arith
 room-next (some n) k (some (palette l ts)) r e = omega arith
 room-next (some n) k (some (timestamp l ps fs v)) r e = omega (arith, ltb-true k n e)
 
-room-sum : (room : Option ℕ) (k a b c : ℕ) → c ≡ a + b → Roomy room (k + a + b) → Roomy room (k + c)
+pub room-sum : (room : Option ℕ) (k a b c : ℕ) → c ≡ a + b → Roomy room (k + a + b) → Roomy room (k + c)
 room-sum none k a b c e r = tt
 room-sum (some n) k a b c e r = omega arith
 
-sum-room : (room : Option ℕ) (k a b c : ℕ) → c ≡ a + b → Roomy room (k + c) → Roomy room (k + a + b)
+pub sum-room : (room : Option ℕ) (k a b c : ℕ) → c ≡ a + b → Roomy room (k + c) → Roomy room (k + a + b)
 sum-room none k a b c e r = tt
 sum-room (some n) k a b c e r = omega arith
 
-room-yes : (room : Option ℕ) (k : ℕ) (o : Option Said) (ls : List Said) → Roomy room (k + length (cuesOfLines (orNone o ls))) → roomFor room k o ≡ true
+pub room-yes : (room : Option ℕ) (k : ℕ) (o : Option Said) (ls : List Said)
+    → Roomy room (k + length (cuesOfLines (orNone o ls))) → roomFor room k o ≡ true
 room-yes room k none ls r = refl
 room-yes room k (some (size l w h)) ls r = refl
 room-yes room k (some (palette l ts)) ls r = refl
@@ -63,7 +65,8 @@ list-nothing : (p : Part) (ps : List Part) (ls : List Said) → SaysNothing (tri
 list-nothing p ps [] s h = (trim p, trim-is p, s, h)
 list-nothing p ps (l ∷ ls) s h = (trim p, trim-is p, inl (s, h))
 
-list-one : (p : Part) (ps : List Part) (o : Option Said) (ls : List Said) → SaysThis (trim p) o → LinesListed ps ls → LinesListed (p ∷ ps) (orNone o ls)
+pub list-one : (p : Part) (ps : List Part) (o : Option Said) (ls : List Said) → SaysThis (trim p) o
+    → LinesListed ps ls → LinesListed (p ∷ ps) (orNone o ls)
 list-one p ps none ls s h = list-nothing p ps ls s h
 list-one p ps (some l) ls s h = (trim p, trim-is p, inr (s, h))
 
@@ -103,15 +106,15 @@ lines-one room (p ∷ ps) k (l ∷ ls) h r = go (λ j ms. lines-one room ps j ms
     go ih (inr q) = said (some l) ls refl (q .0) (ih (k + cuesIn (some l)) ls (q .1) (left (some l) ls refl))
 
 -- ---- the lines of a text
-none-yet : (room : Option ℕ) → Roomy room 0
+pub none-yet : (room : Option ℕ) → Roomy room 0
 none-yet none = tt
 none-yet (some n) = omega arith
 
-from-zero : (room : Option ℕ) (m : ℕ) → Roomy room (0 + m) → Roomy room m
+pub from-zero : (room : Option ℕ) (m : ℕ) → Roomy room (0 + m) → Roomy room m
 from-zero none m r = tt
 from-zero (some n) m r = omega arith
 
-to-zero : (room : Option ℕ) (m : ℕ) → Roomy room m → Roomy room (0 + m)
+pub to-zero : (room : Option ℕ) (m : ℕ) → Roomy room m → Roomy room (0 + m)
 to-zero none m r = tt
 to-zero (some n) m r = omega arith
 

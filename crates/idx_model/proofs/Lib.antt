@@ -8,3 +8,4 @@ pub mod Refusals
 pub mod Claim
 pub mod Cards
 pub mod NoBytes
+pub mod Large

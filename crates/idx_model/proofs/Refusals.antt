@@ -1,10 +1,11 @@
--- A text is refused with a number of the table: 1, then 2 to 10 of its first faulty line; and for one cue 11 after these. Assumes nothing.
+-- A text is refused with a number of the table: 1, then 2 to 10 or 41 of its first faulty line; and for one cue 11
+-- after these. Assumes nothing.
 use Prim.Native.Nat.{ℕ, _+_}
 use mathlib.Core.Path.{_≡_, refl, subst}
 use mathlib.Core.Option.{Option, some, none}
-use mathlib.Core.List.{List, [], _∷_}
+use mathlib.Core.List.{List, [], _∷_, _++_}
 use Rattle.outcome.proofs.Numbers.{in-table, check-numbered, need-numbered, andThen-numbered, mapRes-numbered, refused-also}
-use Rattle.outcome.specs.Outcome.{InTable, ok, refuse, need, high-byte, short-cues, no-cue, RefusedWith, Numbered, bad-width, bad-token, bad-position}
+use Rattle.outcome.specs.Outcome.{InTable, ok, refuse, need, high-byte, short-cues, no-cue, RefusedWith, Numbered, bad-width, bad-token, bad-position, large-position}
 use Rattle.grammar.specs.Parts.{Part}
 use Rattle.grammar.specs.IndexParts.{line-end}
 use Rattle.grammar.specs.IndexCues.{cuesOf, cueAt}
@@ -13,6 +14,7 @@ use Rattle.idx_lines_model.specs.Lines.{lineOf, tokens, partsAt, firstOf, lastO
 use Rattle.idx_model.specs.Text.{orNone, cuesIn, roomAfter, roomFor, linesIn, lowByte, textIn, idxIn, idxOf}
 use Rattle.idx_model.specs.Answers.{pickOf}
 use Rattle.idx_lines_model.proofs.Refusals.{TextNumber, text-number, line-numbered}
+use Rattle.idx_lines_model.proofs.Cards.{past-stored, stamp}
 use Rattle.outcome.proofs.Numbers.{not-0}
 use Rattle.grammar.specs.IndexNumbers.{numeral}
 use Rattle.grammar.specs.Index.{startOf, greys, of-lines, no-bytes}
@@ -65,12 +67,26 @@ pub orders :
     × (idxIn (some 0) (116 ∷ 105 ∷ 109 ∷ 101 ∷ 115 ∷ 116 ∷ 97 ∷ 109 ∷ 112 ∷ 58 ∷ 48 ∷ 44 ∷ 102 ∷ 105 ∷ 108 ∷ 101 ∷ 112 ∷ 111 ∷ 115 ∷ 58 ∷ 48 ∷ 10 ∷ 115 ∷ 105 ∷ 122 ∷ 101 ∷ 58 ∷ 120 ∷ []) ≡ refuse short-cues)
     -- 2, and then 10: `size:x`, `timestamp:0,filepos:0`, and no place
     × (idxIn (some 0) (115 ∷ 105 ∷ 122 ∷ 101 ∷ 58 ∷ 120 ∷ 10 ∷ 116 ∷ 105 ∷ 109 ∷ 101 ∷ 115 ∷ 116 ∷ 97 ∷ 109 ∷ 112 ∷ 58 ∷ 48 ∷ 44 ∷ 102 ∷ 105 ∷ 108 ∷ 101 ∷ 112 ∷ 111 ∷ 115 ∷ 58 ∷ 48 ∷ []) ≡ refuse bad-width)
+    -- 1, and 41: `timestamp:0,filepos:100000000` and a byte 80
+    × (idxIn none (stamp past-stored ++ 10 ∷ 128 ∷ []) ≡ refuse high-byte)
+    -- 41, and 10 of one line: the second, where the first has the one place
+    × (idxIn (some 1) (stamp (48 ∷ []) ++ 10 ∷ stamp past-stored) ≡ refuse large-position)
+    -- 10, and then 41: no place for the first
+    × (idxIn (some 0) (stamp (48 ∷ []) ++ 10 ∷ stamp past-stored) ≡ refuse short-cues)
+    -- 2, and then 41: `size:x` before it; and 41, and then 2
+    × (idxIn none (115 ∷ 105 ∷ 122 ∷ 101 ∷ 58 ∷ 120 ∷ 10 ∷ stamp past-stored) ≡ refuse bad-width)
+    × (idxIn none (stamp past-stored ++ 10 ∷ 115 ∷ 105 ∷ 122 ∷ 101 ∷ 58 ∷ 120 ∷ []) ≡ refuse large-position)
 unfolding idxIn textIn linesIn lineOf tokens strip trim front rest shorn split partsAt firstOf lastOf fields steps unsigned signed bare all numeral startOf
-orders = (refl, refl, refl, refl, refl)
+orders = (refl, refl, refl, refl, refl, refl, refl, refl, refl, refl)
 
--- 4, and 11: `palette:g`, of which no cue is the first
+-- and for one cue: a text and the cue
 pub cue-orders :
-    -- 4, and 11
+    -- 4, and 11: `palette:g`, of which no cue is the first
     (pickOf (idxOf (112 ∷ 97 ∷ 108 ∷ 101 ∷ 116 ∷ 116 ∷ 101 ∷ 58 ∷ 103 ∷ [])) 0 ≡ refuse bad-token)
-unfolding pickOf idxIn textIn linesIn lineOf tokens strip trim front rest shorn split unsigned bare all numeral
-cue-orders = refl
+    -- 41, and 11: `timestamp:0,filepos:100000000`, of which no cue is the second
+    × (pickOf (idxOf (stamp past-stored)) 1 ≡ refuse large-position)
+    -- 41 of a later cue, and of an earlier one, than the one that is asked for
+    × (pickOf (idxOf (stamp (48 ∷ []) ++ 10 ∷ stamp past-stored)) 0 ≡ refuse large-position)
+    × (pickOf (idxOf (stamp past-stored ++ 10 ∷ stamp (48 ∷ []))) 1 ≡ refuse large-position)
+unfolding pickOf idxIn textIn linesIn lineOf tokens strip trim front rest shorn split partsAt firstOf lastOf fields steps unsigned signed bare all numeral startOf
+cue-orders = (refl, refl, refl, refl)

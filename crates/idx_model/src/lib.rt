@@ -11,7 +11,7 @@ pub struct Seen {
     pub has_palette: bool,
     // Start and position of the cue that is looked for, and the start of the one after it; 0 until they are met.
     pub start: i64,
-    pub position: u64,
+    pub position: u32,
     pub next: i64,
 }
 
@@ -38,7 +38,7 @@ pub struct CueAnswer {
     // The number of the refusal; 0 where there is none.
     pub refused: u8,
     pub start: Micros,
-    pub position: u64,
+    pub position: u32,
     // Whether another cue follows, and the time up to it; 0 where none does.
     pub has_duration: bool,
     pub duration: Micros,

@@ -59,7 +59,7 @@ fn read_file(path: &[u8], buffer: &mut [u8]) -> Bytes
 }
 
 // A line for each cue. A unit has at most 65,535 bytes, and a line at most 210.
-fn write_cues(file: &[u8], starts: &[i64], positions: &[u64], cues: usize) {
+fn write_cues(file: &[u8], starts: &[i64], positions: &[u32], cues: usize) {
     let mut scratch = [0u8; 65536];
     let mut line = [0u8; 256];
     let mut n = 0;
@@ -81,7 +81,7 @@ fn list_title(index: &[u8], file: &[u8]) {
     let n = a.size;
     let m = b.size;
     let mut starts = [0i64; 65537];
-    let mut positions = [0u64; 65537];
+    let mut positions = [0u32; 65537];
     let mut line = [0u8; 256];
     let head = listing::title_line(
         there,

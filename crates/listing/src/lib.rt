@@ -224,7 +224,7 @@ fn put_found<'a>(
     file: &'a [u8],
     scratch: &'a [u8],
     unit: UnitAnswer,
-    position: u64,
+    position: u32,
     n: usize,
     start: Micros,
     lasts: bool,
@@ -241,7 +241,7 @@ fn put_found<'a>(
 // every one.
 fn put_cue(
     file: &[u8],
-    position: u64,
+    position: u32,
     n: usize,
     start: Micros,
     lasts: bool,
@@ -286,7 +286,7 @@ fn put_cue(
 pub fn cue_line(
     file: &[u8],
     starts: &[i64],
-    positions: &[u64],
+    positions: &[u32],
     cues: usize,
     n: usize,
     scratch: &mut [u8; 65536],
@@ -351,7 +351,7 @@ pub fn title_line(
     text: &[u8],
     file: &[u8],
     starts: &mut [i64; 65537],
-    positions: &mut [u64; 65537],
+    positions: &mut [u32; 65537],
     line: &mut [u8; 256],
 ) -> Head
     ensures { λ r. ⌜ Headed there (now (text .entry)) (now (file .entry)) (now (starts .entry)) (now (positions .entry)) (now (line .entry)) r (now (starts .exit)) (now (positions .exit)) (now (line .exit)) ⌝ }

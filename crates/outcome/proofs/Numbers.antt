@@ -3,18 +3,20 @@
 use Prim.Native.Nat.{ℕ, zero, suc, _<_}
 use native.Mathlib.Omega.{arith}
 use mathlib.Core.Path.{_≡_, refl, sym, subst, _∙_}
-use mathlib.Core.Bool.{Bool, true, false, cond}
+use mathlib.Core.Bool.{Bool, true, false, cond, _||_}
 use mathlib.Core.Option.{Option, some, none}
 use mathlib.Core.List.{List, [], _∷_}
-use Rattle.outcome.specs.Outcome.{Res, ok, refuse, refusals, isOneOf, InTable, check, need, andThen, consRes, mapRes, RefusedWith, Numbered, refusalOf, Returned}
+use lib.Dec.{eqb}
+use lib.ListN.{drop}
+use Rattle.outcome.specs.Outcome.{Res, ok, refuse, large-position, refusals, isOneOf, InTable, check, need, andThen, consRes, mapRes, RefusedWith, Numbered, refusalOf, Returned}
 use Rattle.outcome.proofs.Laws.{clash}
 use Rattle.outcome.specs.Lists.{listFuel, listFrom}
 
--- 1 to 34 without 23, each once: 32 before 11, 34 before 22 and 33 after 26
+-- 1 to 34 without 23, and 41, each once: 41 before 10, 32 before 11, 34 before 22 and 33 after 26
 pub table :
     refusals
-    ≡ 1 ∷ 2 ∷ 3 ∷ 4 ∷ 5 ∷ 6 ∷ 7 ∷ 8 ∷ 9 ∷ 10 ∷ 32 ∷ 11 ∷ 12 ∷ 13 ∷ 14 ∷ 15 ∷ 16 ∷ 17 ∷ 18 ∷ 19 ∷ 20 ∷ 21 ∷ 34 ∷ 22 ∷ 24
-    ∷ 25 ∷ 26 ∷ 33 ∷ 27 ∷ 28 ∷ 29 ∷ 30 ∷ 31 ∷ []
+    ≡ 1 ∷ 2 ∷ 3 ∷ 4 ∷ 5 ∷ 6 ∷ 7 ∷ 8 ∷ 9 ∷ 41 ∷ 10 ∷ 32 ∷ 11 ∷ 12 ∷ 13 ∷ 14 ∷ 15 ∷ 16 ∷ 17 ∷ 18 ∷ 19 ∷ 20 ∷ 21 ∷ 34 ∷ 22
+    ∷ 24 ∷ 25 ∷ 26 ∷ 33 ∷ 27 ∷ 28 ∷ 29 ∷ 30 ∷ 31 ∷ []
 table = refl
 
 -- nothing is refused with 23
@@ -23,6 +25,41 @@ no-23 h = clash (isOneOf 23 refusals) (h .listed-there) refl
 
 pub in-table : (n : ℕ) → isOneOf n refusals ≡ true → InTable n
 in-table n h = record { listed-there = h }
+
+-- the numbers that come after those of a text
+abbrev pub after-text : List ℕ
+after-text = drop 11 refusals
+
+-- from 32 on
+pub after-table :
+    after-text
+    ≡ 32 ∷ 11 ∷ 12 ∷ 13 ∷ 14 ∷ 15 ∷ 16 ∷ 17 ∷ 18 ∷ 19 ∷ 20 ∷ 21 ∷ 34 ∷ 22 ∷ 24 ∷ 25 ∷ 26 ∷ 33 ∷ 27 ∷ 28 ∷ 29 ∷ 30 ∷ 31
+    ∷ []
+after-table = refl
+
+-- each of them has the property P
+abbrev pub AfterText : (ℕ → Type 0) → Type 0
+AfterText P = (n : ℕ) → isOneOf n after-text ≡ true → P n
+
+one-more : (n m : ℕ) (ms : List ℕ) → isOneOf n ms ≡ true → isOneOf n (m ∷ ms) ≡ true
+one-more n m ms h = go (eqb n m)
+  where
+    go : (b : Bool) → b || isOneOf n ms ≡ true
+    go true = refl
+    go false = h
+
+dropped : (k n : ℕ) (ms : List ℕ) → isOneOf n (drop k ms) ≡ true → isOneOf n ms ≡ true
+dropped zero n ms h = h
+dropped (suc k) n [] h = h
+dropped (suc k) n (m ∷ ms) h = one-more n m ms (dropped k n ms h)
+
+pub after-in-table : AfterText InTable
+after-in-table n h = in-table n (dropped 11 n refusals h)
+
+-- 41 is none of them
+pub after-41 : AfterText (λ n. n ≡ large-position → ⊥)
+after-41 n h e =
+    clash (isOneOf large-position after-text) (subst (λ (m : ℕ). isOneOf m after-text ≡ true) e h) refl
 
 pub not-0 : (n : ℕ) → InTable n → n ≡ 0 → ⊥
 not-0 n h e = clash (isOneOf 0 refusals) (subst InTable e h .listed-there) refl

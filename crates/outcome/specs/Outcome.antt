@@ -39,6 +39,9 @@ long-time = 8
 abbrev pub bad-position : ℕ
 bad-position = 9
 
+abbrev pub large-position : ℕ
+large-position = 41
+
 abbrev pub short-cues : ℕ
 short-cues = 10
 
@@ -115,8 +118,8 @@ short-output = 31
 abbrev pub refusals : List ℕ
 refusals =
     high-byte ∷ bad-width ∷ bad-height ∷ bad-token ∷ no-time ∷ no-position ∷ bad-time ∷ long-time ∷
-    bad-position ∷ short-cues ∷ bad-stream ∷ no-cue ∷ past-file ∷ no-unit ∷ short-scratch ∷ no-head ∷ bad-head ∷
-    cut-parameters ∷ small-size ∷ no-band-list ∷ unknown-command ∷ no-area ∷ many-bands ∷ short-pixels ∷
+    bad-position ∷ large-position ∷ short-cues ∷ bad-stream ∷ no-cue ∷ past-file ∷ no-unit ∷ short-scratch ∷ no-head ∷
+    bad-head ∷ cut-parameters ∷ small-size ∷ no-band-list ∷ unknown-command ∷ no-area ∷ many-bands ∷ short-pixels ∷
     short-canvas ∷ no-top-field ∷ field-ran-out ∷ long-instant ∷ bad-side ∷ not-all-indices ∷ bad-index ∷
     long-unit ∷ short-output ∷ []
 

@@ -30,6 +30,9 @@ pub const LONG_TIME: u8 = 8;
 // The position of a timestamp line is no number.
 pub const BAD_POSITION: u8 = 9;
 
+// The position of a timestamp line is above 4,294,967,295.
+pub const LARGE_POSITION: u8 = 41;
+
 // A lent cue buffer has no room for a cue.
 pub const SHORT_CUES: u8 = 10;
 

@@ -5,8 +5,8 @@ use mathlib.Core.Bool.{Bool, true, false, cond}
 use mathlib.Core.List.{List, [], _∷_}
 use lib.ListN.{length}
 use lib.Dec.{leb, ltb}
-use Rattle.outcome.proofs.Numbers.{in-table, check-numbered, andThen-numbered}
-use Rattle.outcome.specs.Outcome.{Res, ok, refuse, check, mapRes, past-file, no-unit, bad-stream, short-scratch, InTable, Numbered}
+use Rattle.outcome.proofs.Numbers.{in-table, AfterText, after-in-table, check-numbered, andThen-numbered}
+use Rattle.outcome.specs.Outcome.{Res, ok, refuse, check, mapRes, past-file, no-unit, bad-stream, short-scratch, InTable, RefusedWith, Numbered}
 use Rattle.outcome.proofs.Laws.{ok-not-refuse, mapRes-refuse}
 use Rattle.outcome.proofs.Lists.{list-refuses}
 use Rattle.grammar.specs.Bytes.{word}
@@ -37,19 +37,23 @@ module _ (id : ℕ → Bool) (f : List ℕ) (p : ℕ) where
       go true q = none (isBare f p) q
       go false q = let z : past-file ≡ k = cc in sym z
 
-  pub unit-numbered : (n : ℕ) → Numbered (unitAt id f p n)
+  -- over any property of the numbers after those of a text
+  pub unit-with : (P : ℕ → Type 0) → AfterText P → (n : ℕ) → RefusedWith P (unitAt id f p n)
   unfolding unitAt
-  unit-numbered n =
-      andThen-numbered InTable (formAt id f p) _ (form (formAt id f p) refl)
-      (λ m. check-numbered InTable (leb (scratchFor m) n) short-scratch (ok m) (in-table short-scratch refl) tt)
+  unit-with P each n =
+      andThen-numbered P (formAt id f p) _ (form (formAt id f p) refl)
+      (λ m. check-numbered P (leb (scratchFor m) n) short-scratch (ok m) (each short-scratch refl) tt)
     where
-      either-number : (t : Bool) → InTable (cond t no-unit past-file)
-      either-number true = in-table no-unit refl
-      either-number false = in-table past-file refl
+      either-number : (t : Bool) → P (cond t no-unit past-file)
+      either-number true = each no-unit refl
+      either-number false = each past-file refl
 
-      form : (x : Res Form) → formAt id f p ≡ x → Numbered x
+      form : (x : Res Form) → formAt id f p ≡ x → RefusedWith P x
       form (ok m) q = tt
-      form (refuse k) q = subst InTable (sym (form-refused k q)) (either-number (ltb p (length f)))
+      form (refuse k) q = subst P (sym (form-refused k q)) (either-number (ltb p (length f)))
+
+  pub unit-numbered : (n : ℕ) → Numbered (unitAt id f p n)
+  unit-numbered = unit-with InTable after-in-table
 
 pub stream-numbered : (s : ℕ) (f : List ℕ) (p n : ℕ) → Numbered (streamUnit s f p n)
 unfolding streamUnit

@@ -12,6 +12,8 @@ const NUMBER: usize = 0xA5C35A3C0FF09669;
 
 const START: i64 = 0x5AC35A3C0FF09669;
 
+const PLACE: u32 = 0x0FF09669;
+
 // What a row of the list expects: the refusal, and the sum over all that a call gives and all that was lent to it.
 struct Expected {
     refusal: u8,
@@ -90,11 +92,15 @@ fn mixed_starts(sum: u64, s: &[i64]) -> u64 {
     t
 }
 
-fn mixed_positions(sum: u64, s: &[u64]) -> u64 {
+fn mixed_position(sum: u64, p: u32) -> u64 {
+    mixed(sum, p as u64)
+}
+
+fn mixed_positions(sum: u64, s: &[u32]) -> u64 {
     let mut t = sum;
     let mut i = 0;
     while i < s.len() {
-        t = mixed(t, s[i]);
+        t = mixed_position(t, s[i]);
         i += 1;
     }
     t
@@ -172,7 +178,7 @@ fn written(bytes: &[u8], width: usize, height: usize, out: &mut [u8], e: Expecte
     as_expected(e, r, mixed_bytes(mixed(1, length as u64), out))
 }
 
-fn index(bytes: &[u8], starts: &mut [i64], positions: &mut [u64], e: Expected) -> bool {
+fn index(bytes: &[u8], starts: &mut [i64], positions: &mut [u32], e: Expected) -> bool {
     let mut palette: [u8; 48] = [BYTE; 48];
     let mut numbers: [usize; 4] = [NUMBER; 4];
     let r = vobsub_c::vobsub_parse_idx(bytes, starts, positions, &mut palette, &mut numbers);
@@ -273,7 +279,7 @@ fn unit_row(bytes: &[u8], room: usize, e: Expected) -> bool {
 
 fn index_row(bytes: &[u8], room: usize, more: usize, e: Expected) -> bool {
     let mut starts = [START; 64];
-    let mut positions = [NUMBER as u64; 64];
+    let mut positions = [PLACE; 64];
     if room <= 64 {
         if more <= 64 {
             return index(bytes, &mut starts[..room], &mut positions[..more], e);

@@ -1,6 +1,6 @@
 // Runs rows through the exported functions, and writes a line for each: the function, the row's name, its answer, and
-// the memory lent for it, with `.` for what is as found: bytes of 237, words of EEEE, starts of -77, positions of 77;
-// for decode_rle_field both numbers of codes, of 77; for a refused decode_cue times of -77 and numbers of 77.
+// the memory lent for it, with `.` for what is as found: bytes of 237, words of EEEE, starts of -77, positions of
+// EDEDEDED; for decode_rle_field both numbers of codes, of 77; for a refused decode_cue times of -77 and numbers of 77.
 // A line of standard input is a row: the function, its name, its numbers, its bytes, and for decode_cue the bytes of
 // the file, with a bar between them. The numbers are those of the call in its order, and how much memory is lent:
 // parse_and_decode_spu: map. extract_spu: position, stream; scratch. parse_idx: starts, positions. pick_cue: cue.
@@ -18,7 +18,9 @@ const FOUND_WORD: u16 = 0xEEEE;
 
 const FOUND_START: i64 = -77;
 
-const FOUND_POSITION: u64 = 77;
+const FOUND_POSITION: u32 = 0xEDEDEDED;
+
+const FOUND_NUMBER: u64 = 77;
 
 fn say(s: &[u8]) {
     io::write_all(STDOUT_FILENO, s);
@@ -262,15 +264,24 @@ fn all_starts(starts: &[i64]) {
     }
 }
 
-fn position(n: u64) {
-    if n == FOUND_POSITION {
+fn counted(n: u64) {
+    if n == FOUND_NUMBER {
         say(b" .");
     } else {
         number(of_long(n));
     }
 }
 
-fn all_positions(positions: &[u64]) {
+// A place is as found only where all four of its bytes are.
+fn position(n: u32) {
+    if n == FOUND_POSITION {
+        say(b" .");
+    } else {
+        number(n as usize);
+    }
+}
+
+fn all_positions(positions: &[u32]) {
     say(b"; positions");
     let mut i = 0;
     while i < positions.len() {
@@ -308,7 +319,7 @@ fn colours(any: usize, palette: &[u8; 48]) {
     }
 }
 
-fn indexed(text: &[u8], starts: &mut [i64], positions: &mut [u64]) {
+fn indexed(text: &[u8], starts: &mut [i64], positions: &mut [u32]) {
     let mut palette: [u8; 48] = [FOUND; 48];
     let mut numbers: [usize; 4] = [77; 4];
     let refusal = vobsub_c::vobsub_parse_idx(text, starts, positions, &mut palette, &mut numbers);
@@ -352,7 +363,7 @@ fn lasts(set: u64, duration: u64) {
 fn cue(text: &[u8], n: usize) {
     let mut start: i64 = FOUND_START;
     let mut palette: [u8; 48] = [FOUND; 48];
-    let mut numbers: [u64; 4] = [FOUND_POSITION; 4];
+    let mut numbers: [u64; 4] = [FOUND_NUMBER; 4];
     form(b", cue @", &[n; 17]);
     let refusal = vobsub_c::vobsub_pick_cue(text, n, &mut start, &mut palette, &mut numbers);
     if answered(refusal) {
@@ -406,7 +417,7 @@ fn painted(
     canvas: &mut [u8],
 ) {
     let mut times: [i64; 3] = [FOUND_START; 3];
-    let mut numbers: [u64; 13] = [FOUND_POSITION; 13];
+    let mut numbers: [u64; 13] = [FOUND_NUMBER; 13];
     let refusal = vobsub_c::vobsub_decode_cue(
         text,
         file,
@@ -477,9 +488,9 @@ fn field_decoded(field: &[u8], width: usize, height: usize, start_row: usize, ma
         say(b",");
     }
     say(b" codes");
-    position(codes as u64);
+    counted(codes as u64);
     say(b", clipped");
-    position(clipped as u64);
+    counted(clipped as u64);
     byte_runs(b",", map);
 }
 

@@ -369,7 +369,8 @@ fn paint_found<'a>(
 ) -> CanvasAnswer
     ensures { λ r. ⌜ UnitPainted (unitPart (now (file .entry)) (now (scratch .entry)) (c .position) unit) c (now (pixels .entry)) (now (canvas .entry)) r (now (pixels .exit)) (now (canvas .exit)) ⌝ }
 {
-    let bytes = ps::unit_part(file, scratch, c.position as usize, unit);
+    let position = c.position as usize;
+    let bytes = ps::unit_part(file, scratch, position, unit);
     paint_unit(bytes, c, pixels, canvas)
 }
 
@@ -409,7 +410,8 @@ pub fn decode_cue(
     if c.refused != 0 {
         return CanvasAnswer::Refused(first_refusal(c.refused, request.stream));
     }
-    match ps::extract_spu(file, c.position as usize, request.stream, scratch) {
+    let position = c.position as usize;
+    match ps::extract_spu(file, position, request.stream, scratch) {
         UnitAnswer::Bare(n) => paint_found(
             file,
             &scratch[..],

@@ -1,8 +1,8 @@
 -- What the exported functions return and leave, in the words of the layers: the number of a refusal, 0 only where there is none (`returned`), and
 -- the last content of all that was lent. Assumes nothing: these are definitions.
-use Prim.Native.Nat.{ℕ, _*_, _≤_}
+use Prim.Native.Nat.{ℕ, _*_, _≤_, _<_, min}
 use mathlib.Core.Path.{_≡_}
-use mathlib.Core.List.{List, [], _∷_}
+use mathlib.Core.List.{List, [], _∷_, map}
 use mathlib.Core.Logic.{_↔_}
 use mathlib.Core.Option.{some}
 use mathlib.Core.Bool.{cond}
@@ -20,7 +20,7 @@ use Rattle.bands_model.specs.Claim.{PayloadBands, TooMany}
 use Rattle.bands_model.specs.declared.BandAnswer.{BandAnswer}
 use Rattle.bands_model.specs.declared.BandAnswer.the-variants as band-answer
 use Rattle.grammar.specs.Index.{ListedText, IsText}
-use Rattle.grammar.specs.IndexCues.{Cue, cuesOf, cueAt}
+use Rattle.grammar.specs.IndexCues.{Cue, cuesOf, cueAt, paletteOf, hasPalette, displaySize, durationOf}
 use Rattle.grammar.specs.Packets.{Packet, streamId}
 use Rattle.grammar.specs.Streams.{Walk, Alike}
 use Rattle.ps_model.specs.OnePacket.{bodyAt}
@@ -205,6 +205,16 @@ idxRecord a before = cond (eqb (a .refused) 0) (idxNumbers a) before
 abbrev pub idxPalette : IdxAnswer → List ℕ → List ℕ
 idxPalette a before = cond (eqb (a .refused) 0) (a .palette) before
 
+-- what is stored is what is listed of the text: start and position of each cue, the palette, and each number at its
+-- place in include/vobsub.h (FORMAT 1.9, 1.12)
+pub record TextTold (t : ListedText) (starts : List ℤ) (positions : List ℕ) (starts′ : List ℤ)
+    (positions′ palette numbers : List ℕ) : Type 0 where
+  pub starts-are : starts′ ≡ sets starts 0 (map (λ (c : Cue). c .start) (cuesOf t))
+  pub positions-are : positions′ ≡ sets positions 0 (map (λ (c : Cue). c .position) (cuesOf t))
+  pub palette-is : palette ≡ paletteOf t
+  pub numbers-are : numbers
+      ≡ displaySize t .width ∷ displaySize t .height ∷ cond (hasPalette t) 1 0 ∷ length (cuesOf t) ∷ []
+
 pub record IndexGiven (text : List ℕ) (starts : List ℤ) (positions palette numbers : List ℕ) (r : ℕ) (starts′ : List ℤ) (positions′ palette′ numbers′ : List ℕ) : Type 0 where
   pub refusal : r ≡ idxAnswer (idxWith starts positions text) .refused
   pub returned : Returned (idxWith starts positions text) r
@@ -212,6 +222,12 @@ pub record IndexGiven (text : List ℕ) (starts : List ℤ) (positions palette n
   pub colours : palette′ ≡ idxPalette (idxAnswer (idxWith starts positions text)) palette
   pub starts-are : starts′ ≡ sets starts 0 (startsOf (listedBy (idxWith starts positions text) cuesOf))
   pub positions-are : positions′ ≡ sets positions 0 (positionsOf (listedBy (idxWith starts positions text) cuesOf))
+  pub as-found : (r ≡ 0 → ⊥)
+      → (starts′ ≡ starts) × (positions′ ≡ positions) × (palette′ ≡ palette) × (numbers′ ≡ numbers)
+  pub exactly-when : (r ≡ 0)
+      ↔ ((t : ListedText) × IsText text t × (length (cuesOf t) ≤ min (length starts) (length positions)))
+  pub text-told : (t : ListedText) → IsText text t → r ≡ 0
+      → TextTold t starts positions starts′ positions′ palette′ numbers′
 
 -- and those, the start and the palette where nothing is refused, or what was there
 abbrev pub cueRecord : CueAnswer → List ℕ → List ℕ
@@ -223,12 +239,25 @@ cueStart a before = cond (eqb (a .refused) 0) (a .start .0) before
 abbrev pub cuePalette : CueAnswer → List ℕ → List ℕ
 cuePalette a before = cond (eqb (a .refused) 0) (a .palette) before
 
+-- what is stored is what the listed text gives for cue n, which is c: its start, the palette, and each number at its
+-- place in include/vobsub.h (FORMAT 1.9, 1.10)
+pub record CueTold (t : ListedText) (n : ℕ) (c : Cue) (start : ℤ) (palette numbers : List ℕ) : Type 0 where
+  pub start-is : start ≡ c .start
+  pub palette-is : palette ≡ paletteOf t
+  pub numbers-are : numbers
+      ≡ c .position ∷ cond (given (durationOf (cuesOf t) n)) 1 0 ∷ orZero (durationOf (cuesOf t) n)
+      ∷ cond (hasPalette t) 1 0 ∷ []
+
 pub record CueGiven (text : List ℕ) (cue : ℕ) (start : ℤ) (palette numbers : List ℕ) (r : ℕ) (start′ : ℤ) (palette′ numbers′ : List ℕ) : Type 0 where
   pub refusal : r ≡ cueAnswer (pickOf (idxOf text) cue) .refused
   pub returned : Returned (pickOf (idxOf text) cue) r
   pub starts-at : start′ ≡ cueStart (cueAnswer (pickOf (idxOf text) cue)) start
   pub told : numbers′ ≡ cueRecord (cueAnswer (pickOf (idxOf text) cue)) numbers
   pub colours : palette′ ≡ cuePalette (cueAnswer (pickOf (idxOf text) cue)) palette
+  pub as-found : (r ≡ 0 → ⊥) → (start′ ≡ start) × (palette′ ≡ palette) × (numbers′ ≡ numbers)
+  pub exactly-when : (r ≡ 0) ↔ ((t : ListedText) × IsText text t × (cue < length (cuesOf t)))
+  pub cue-told : (t : ListedText) → IsText text t → (c : Cue) → cueAt (cuesOf t) cue ≡ some c → r ≡ 0
+      → CueTold t cue c start′ palette′ numbers′
 
 abbrev pub canvasRefusal : CanvasAnswer → ℕ
 canvasRefusal (canvas-answer.Paints s) = 0

@@ -153,7 +153,7 @@ pub extern "C" fn vobsub_build_demo_spu(
 pub extern "C" fn vobsub_parse_idx(
     text: &[u8],
     starts: &mut [i64],
-    positions: &mut [u64],
+    positions: &mut [u32],
     palette: &mut [u8; 48],
     numbers: &mut [usize; 4],
 ) -> u8

@@ -9,3 +9,4 @@ pub mod Streams
 pub mod NoBytes
 pub mod Late
 pub mod Many
+pub mod Large

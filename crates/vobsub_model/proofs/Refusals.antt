@@ -6,13 +6,14 @@ use mathlib.Core.List.{List, [], _∷_, _++_}
 use lib.Dec.{leb}
 use lib.IntN.{pos}
 use lib.ListN.{length, replicate}
-use Rattle.outcome.specs.Outcome.{InTable, Numbered, need, bad-stream, no-cue, many-bands, short-pixels, short-canvas, no-top-field, field-ran-out, long-instant, ok, refuse, refusalOf, bad-position, short-scratch, cut-parameters, small-size, no-band-list, unknown-command, no-area}
+use Rattle.outcome.specs.Outcome.{InTable, Numbered, need, bad-stream, no-cue, many-bands, short-pixels, short-canvas, no-top-field, field-ran-out, long-instant, ok, refuse, refusalOf, bad-position, large-position, short-scratch, cut-parameters, small-size, no-band-list, unknown-command, no-area}
 use Rattle.outcome.proofs.Numbers.{in-table, check-numbered, need-numbered, andThen-numbered, mapRes-numbered}
 use Rattle.grammar.specs.Record.{told, width, height, commandsOf, commandsIn, firstDelay, lastDelay, lastNumbers, stands, allBands}
 use Rattle.grammar.specs.IndexCues.{cuesOfLines, cuesOf, cueAt}
 use Rattle.grammar.specs.Packets.{unitOf, joined, top-stream}
 use Rattle.grammar.specs.Reading.{Wanted, wantedId, wanted, toldBy, readingStart}
 use Rattle.idx_model.specs.Text.{idxOf, linesIn, textIn, idxIn}
+use Rattle.idx_lines_model.proofs.Cards.{past-stored, stamp}
 use Rattle.idx_model.proofs.Refusals.{text-numbered}
 use Rattle.ps_model.specs.Unit.{unitAt}
 use Rattle.ps_model.proofs.Refusals as ps
@@ -87,10 +88,17 @@ pub orders :
     × (foundFor [] [] (wanted 1 0) 0 ≡ refuse no-cue)
     -- 9, and 11: `timestamp:0,filepos:`, and cue 7
     × (foundFor (116 ∷ 105 ∷ 109 ∷ 101 ∷ 115 ∷ 116 ∷ 97 ∷ 109 ∷ 112 ∷ 58 ∷ 48 ∷ 44 ∷ 102 ∷ 105 ∷ 108 ∷ 101 ∷ 112 ∷ 111 ∷ 115 ∷ 58 ∷ []) [] (wanted 7 0) 0 ≡ refuse bad-position)
+    -- 41, and 32: `timestamp:0,filepos:100000000`; and in a later line
+    × (foundFor (stamp past-stored) [] (wanted 0 32) 0 ≡ refuse large-position)
+    × (foundFor (stamp (48 ∷ []) ++ 10 ∷ stamp past-stored) [] (wanted 0 32) 0 ≡ refuse large-position)
+    -- 41, and 11: cue 7
+    × (foundFor (stamp past-stored) [] (wanted 7 0) 0 ≡ refuse large-position)
+    -- 41 in the second line, and 12 of the first cue: no file
+    × (foundFor (stamp (48 ∷ []) ++ 10 ∷ stamp past-stored) [] (wanted 0 0) 0 ≡ refuse large-position)
     -- 14, and 15: a packet that keeps a unit of 3 bytes, and 2 bytes of scratch
     × (foundFor (116 ∷ 105 ∷ 109 ∷ 101 ∷ 115 ∷ 116 ∷ 97 ∷ 109 ∷ 112 ∷ 58 ∷ 48 ∷ 44 ∷ 102 ∷ 105 ∷ 108 ∷ 101 ∷ 112 ∷ 111 ∷ 115 ∷ 58 ∷ 48 ∷ []) (0x00 ∷ 0x00 ∷ 0x01 ∷ 0xBD ∷ 0x00 ∷ 0x07 ∷ 0x80 ∷ 0x00 ∷ 0x00 ∷ 0x20 ∷ 0x00 ∷ 0x03 ∷ 0x00 ∷ []) (wanted 0 0) 2 ≡ refuse short-scratch)
 unfolding foundFor unitAt formAt isBare packetsAt packetAt kindAt privateAt packAt keptAt bodyAt headerAt header1At leading listFrom listFuel word joined unitOf idxIn textIn linesIn lineOf tokens strip trim front rest shorn split partsAt firstOf lastOf fields steps unsigned signed bare all numeral startOf cuesOfLines cueAt
-orders = (refl, refl, refl, refl, refl, refl, refl, refl, refl)
+orders = (refl, refl, refl, refl, refl, refl, refl, refl, refl, refl, refl, refl, refl)
 
 -- a unit with one byte of field and one block, of these bytes after its head
 abbrev unit : List ℕ → List ℕ

@@ -35,7 +35,7 @@ pub record Found : Type 0 where
 abbrev pub found : ListedText → Form → Found
 found t m = record { text = t; form = m }
 
--- 1 to 9, then 32, then 11, then 12 to 14 with n bytes of scratch
+-- 1 to 9 and 41, then 32, then 11, then 12 to 14 with n bytes of scratch
 unfoldable pub foundFor : List ℕ → List ℕ → Wanted → ℕ → Res Found
 foundFor text file q n =
     andThen (idxOf text)

@@ -106,7 +106,8 @@ pub fn cue_numbers_of(a: CueAnswer) -> [u64; 4]
     let lasts = flag(a.has_duration);
     let coloured = flag(a.has_palette);
     let duration = count_of(a.duration);
-    [a.position, lasts as u64, duration, coloured as u64]
+    let position = a.position as u64;
+    [position, lasts as u64, duration, coloured as u64]
 }
 
 // Whether another cue follows and the time up to it, the delays, the place, the size, the number of codes and that of

@@ -1,8 +1,10 @@
 // What the original says of a title, as the lines of the list program, into FILE: `lines DIR FILE`. A refused index has no number, as the
 // original gives none. The list program names stream 0: where others are on a cue's walk, the original is asked about a copy with their ids
-// set to 00. About an index of no bytes the original is not asked: the cue of empty.rs is listed. A cue with too many bands, by limit.rs, is
-// listed as refused with 34, and one that the original shows and that has a time outside signed 64 bits, by times.rs, as refused with 33.
-// Printed are 1 for such an index, or 0, the number of cues with 33 and with 34, and the rules that applied.
+// set to 00. About an index of no bytes the original is not asked: the cue of empty.rs is listed. An index with a position above 32 bits, by
+// stored.rs, is refused with 41, unless an earlier line is. A cue with too many bands, by limit.rs, is listed as refused with 34, and one that
+// the original shows and that has a time outside signed 64 bits, by times.rs, as refused with 33. Printed are 1 for an index of no bytes, or 0,
+// the same for one with 41, the number of cues with 33 and with 34, and the rules that applied.
+use oracle::classes::idx::{ANY, Expected, asked};
 use oracle::side::{Delays, Spot, number_of};
 use oracle::walk::walk;
 use std::fs;
@@ -17,9 +19,16 @@ fn main() -> std::io::Result<()> {
     let side = oracle::original::adapter::SIDE;
     let mut out = fs::File::create(path)?;
     let rule = side.empty.rule(text.as_bytes());
-    let Ok(index) = rule.map_or_else(|| (side.index)(&text), |_| Ok((side.empty.index)())) else {
-        println!("0 0 0");
-        return writeln!(out, "index refused");
+    let index = match asked(&side, text.as_bytes(), ANY).expected {
+        Expected::Given(index) => index,
+        Expected::Refused(41, rule) => {
+            println!("0 1 0 0 {}", rule.unwrap_or_default());
+            return writeln!(out, "index refused 41");
+        }
+        Expected::Refused(..) => {
+            println!("0 0 0 0");
+            return writeln!(out, "index refused");
+        }
     };
     let (mut long, mut many) = (Vec::new(), Vec::new());
     writeln!(out, "cues {}", index.cues.len())?;
@@ -47,6 +56,6 @@ fn main() -> std::io::Result<()> {
         }
     }
     let rules: Vec<&str> = [rule, long.first().copied(), many.first().copied()].into_iter().flatten().collect();
-    println!("{} {} {} {}", rule.is_some() as u8, long.len(), many.len(), rules.join("; "));
+    println!("{} 0 {} {} {}", rule.is_some() as u8, long.len(), many.len(), rules.join("; "));
     Ok(())
 }

@@ -14,6 +14,7 @@ use oracle::limit::{ENTRIES, NO_ENTRY};
 use oracle::port;
 use oracle::random::Random;
 use oracle::side::Side;
+use oracle::stored::LAST;
 use oracle::times::{BOTH, STOOD};
 use std::collections::{BTreeMap, BTreeSet};
 
@@ -23,7 +24,7 @@ const LONGEST: usize = 240;
 // of titles fewer and longer ones
 const EACH_TITLE: usize = 24;
 const LONGEST_TITLE: usize = 640;
-// of what has 31 to 34 bands fewer still, and as long as crates/replay has room for
+// of what has 31 to 34 bands fewer still, and as long as crates/replay has room for; of titles with the greatest position as few
 const EACH_NEAR: usize = 12;
 const LONGEST_NEAR: usize = 4096;
 
@@ -109,7 +110,7 @@ fn answer(kind: u8, bytes: &[u8], n: [usize; 4]) -> (u8, u64) {
             refusal
         }
         7 => {
-            let (mut starts, mut positions, mut palette, mut numbers) = (vec![START; n[0]], vec![NUMBER as u64; n[1]], [BYTE; port::COLOURS], [NUMBER; port::INDEX_NUMBERS]);
+            let (mut starts, mut positions, mut palette, mut numbers) = (vec![START; n[0]], vec![NUMBER as u32; n[1]], [BYTE; port::COLOURS], [NUMBER; port::INDEX_NUMBERS]);
             let refusal = port::parse_idx(bytes, &mut starts, &mut positions, &mut palette, &mut numbers);
             for v in numbers {
                 sum.add(v);
@@ -160,9 +161,9 @@ fn answer(kind: u8, bytes: &[u8], n: [usize; 4]) -> (u8, u64) {
 
 fn rows(class: &Class, world: &World, side: &Side) -> (usize, Vec<u8>) {
     let mut out = Vec::new();
-    let mut met: BTreeMap<(u8, Option<usize>, bool), usize> = BTreeMap::new();
+    let mut met: BTreeMap<(u8, Option<usize>, bool, bool), usize> = BTreeMap::new();
     let mut taken = BTreeSet::new();
-    let (mut count, mut copied, mut clipped, mut empty, mut hidden, mut banded) = (0, 0, 0, 0, 0, 0);
+    let (mut count, mut copied, mut clipped, mut empty, mut hidden, mut banded, mut greatest) = (0, 0, 0, 0, 0, 0, 0);
     for i in 0..60_000 {
         let q = (class.generate)(world, &mut Random::of(SEED, class.name, i));
         let n = numbers(class, side, &q);
@@ -196,13 +197,14 @@ fn rows(class: &Class, world: &World, side: &Side) -> (usize, Vec<u8>) {
         }
         // of accepted titles as many with neither start nor stop, with either and with both, and beside them with a text of no bytes
         let stood = STOOD.iter().position(|what| title && o.met.contains(what));
+        let last = title && o.met.contains(&LAST);
         let quota = match (title, refusal) {
-            _ if near => EACH_NEAR,
+            _ if near || last => EACH_NEAR,
             (true, _) => EACH_TITLE,
             (false, 0) => 4 * EACH,
             (false, _) => EACH,
         };
-        let seen = met.entry((refusal, stood, near)).or_default();
+        let seen = met.entry((refusal, stood.filter(|_| !last), near, last)).or_default();
         if *seen >= quota {
             continue;
         }
@@ -213,6 +215,7 @@ fn rows(class: &Class, world: &World, side: &Side) -> (usize, Vec<u8>) {
         empty += o.empty.is_some() as usize;
         hidden += o.met.contains(&BOTH) as usize;
         banded += near as usize;
+        greatest += o.met.contains(&LAST) as usize;
         out.extend([kind(class), refusal]);
         for word in [q.bytes.len(), n[0], n[1], n[2], n[3]] {
             out.extend((word as u16).to_be_bytes());
@@ -235,6 +238,9 @@ fn rows(class: &Class, world: &World, side: &Side) -> (usize, Vec<u8>) {
     }
     if banded > 0 {
         println!("    {banded} with 31 to 34 bands");
+    }
+    if greatest > 0 {
+        println!("    {greatest} accepted with a position of FFFFFFFF");
     }
     (count, out)
 }

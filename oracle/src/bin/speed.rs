@@ -31,7 +31,7 @@ fn now() -> f64 {
 
 struct Lent {
     starts: Vec<i64>,
-    positions: Vec<u64>,
+    positions: Vec<u32>,
     palette: [u8; port::COLOURS],
     scratch: Vec<u8>,
     map: Vec<u8>,

@@ -3,15 +3,16 @@
 // n: how scratch, map and canvas are lent (0 exactly as long as needed, 1 longer, 2 one short, 3 none).
 use crate::class::*;
 use crate::classes::bands::{self, Area, about};
-use crate::classes::idx::{ANY, Expected, SHORT_TEXTS, TIMES, expected, line, number, short_text};
+use crate::classes::idx::{ANY, Asked, Expected, LINES, SHORT_TEXTS, TIMES, asked, faulty, line, short_text};
 use crate::classes::packets::{above, another, in_packets};
 use crate::classes::unit::{area, by_mode, change, delay, made, put, set_word};
-use crate::classes::{crowd, field};
+use crate::classes::{crowd, field, positions};
 use crate::empty::{self, GIVEN, NEAR, REFUSED};
 use crate::limit;
 use crate::port;
 use crate::random::Random;
 use crate::side::{Delays, Painted, Seen, Side, number_of};
+use crate::stored;
 use crate::times::{self, last_start, micros};
 use crate::titles::titles;
 use crate::walk::{ABOVE, ABSENT, PARTED, TOP_STREAM, stream_at, walk};
@@ -23,7 +24,7 @@ pub const CLASS: Class = Class {
     fixed,
     generate,
     compare,
-    refusals: &[1, 2, 3, 4, 5, 6, 7, 8, 9, 11, 12, 13, 14, 15, 16, 17, 18, 19, 20, 21, 22, 24, 25, 26, 32, 33, 34],
+    refusals: &[1, 2, 3, 4, 5, 6, 7, 8, 9, 11, 12, 13, 14, 15, 16, 17, 18, 19, 20, 21, 22, 24, 25, 26, 32, 33, 34, 41],
     met: &[
         PARTED,
         ABSENT,
@@ -57,6 +58,8 @@ pub const CLASS: Class = Class {
         &limit::BEFORE,
         &limit::LATE,
         &[limit::NO_SCRATCH, limit::NO_MAP, limit::NO_CANVAS, limit::LEAVES, limit::BARE, limit::JOINED],
+        &[stored::LAST, stored::LAST_PAST, stored::UNREAD, stored::LEAST, stored::DECIMAL],
+        &[stored::EARLIER, stored::ITS, stored::LATER, stored::NO_CUE, stored::NO_STREAM, stored::AFTER],
     ],
     accepted: true,
     dear: 4,
@@ -85,8 +88,8 @@ pub fn parts(bytes: &[u8]) -> (&[u8], &[u8], usize, usize) {
 }
 
 // Every cue of the small titles, lent exactly, more, and each buffer one short, and for another stream and 32; every cue of a title of few,
-// and of one of many each tenth. Every real unit with a text of no bytes. Every delay, and times at the ends of their range. Units with 31 to
-// 34 bands.
+// and of one of many each tenth. Every real unit with a text of no bytes. Positions about 2^32. Every delay, and times at the ends of their range.
+// Units with 31 to 34 bands.
 fn fixed(world: &World, each: &mut dyn FnMut(Request)) {
     for title in titles() {
         let (text, cues) = (title.text.as_bytes(), title.positions.len());
@@ -137,6 +140,11 @@ fn fixed(world: &World, each: &mut dyn FnMut(Request)) {
             }
         }
     }
+    positions::fixed(&mut |text| {
+        for (cue, stream) in (0..4).flat_map(|cue| [0, 32].map(|stream| (cue, stream))) {
+            each(request(text.as_bytes(), &card, cue, stream, [1; 4]));
+        }
+    });
     fixed_times(each);
     // with a start from which every time stays, and with one from which each leaves whose delay is not 0
     crowd::fixed(31..35, &mut |unit| {
@@ -251,6 +259,7 @@ enum Fault {
     RanOut,
     HighByte,
     Line(usize),
+    Greater,
     NoCue,
     Past,
     NoUnit,
@@ -263,17 +272,6 @@ enum Fault {
     Cut,
     OtherPlace,
 }
-
-const LINES: [&str; 8] = [
-    "size: {}x5",
-    "size: 720x{}",
-    "palette: 0, {}, 1",
-    "timestamp: filepos: 0",
-    "timestamp: 0:0:1:0",
-    "timestamp: 0:{}:1, filepos: 0",
-    "timestamp: {}, filepos: 0",
-    "timestamp: 0:0:1, filepos: {}",
-];
 
 fn fault(r: &mut Random) -> Fault {
     use Fault::*;
@@ -397,7 +395,7 @@ fn banded(r: &mut Random, fault: Fault) -> Vec<u8> {
     bytes
 }
 
-fn text(r: &mut Random, fault: Fault, starts: &[String], positions: &[usize]) -> Vec<u8> {
+fn text(r: &mut Random, fault: Fault, starts: &[String], places: &[usize]) -> Vec<u8> {
     let mut lines: Vec<String> = Vec::new();
     if !r.once_in(6) {
         lines.push(format!("size: {}x{}", r.below(2000), r.below(2000)));
@@ -406,10 +404,12 @@ fn text(r: &mut Random, fault: Fault, starts: &[String], positions: &[usize]) ->
         let tokens: Vec<String> = (0..if r.once_in(4) { r.below(20) } else { 16 }).map(|_| format!("{:06x}", r.below(1 << 24))).collect();
         lines.push(format!("palette: {}", tokens.join(*r.pick(&[",", ", ", " "]))));
     }
-    for (start, position) in starts.iter().zip(positions) {
-        lines.push(match r.below(8) {
+    for (start, position) in starts.iter().zip(places) {
+        lines.push(match r.below(9) {
             0 => format!("timestamp:{start},filepos:0x{position:x}"),
             1 => format!("timestamp: filepos: {position:X} , {start}"),
+            // the last position counts
+            2 => format!("timestamp: filepos: {}, {start}, filepos: {position:09x}", positions::greater(r)),
             _ => format!("timestamp: {start}, filepos: {position:09x}"),
         });
     }
@@ -419,14 +419,17 @@ fn text(r: &mut Random, fault: Fault, starts: &[String], positions: &[usize]) ->
         lines.insert(r.below(lines.len() + 1), odd);
     }
     if let Fault::Line(i) = fault {
-        let wrong = match i {
-            6 => (*r.pick(&["2562047789", "9223372036854775807:0:0:0", "0:0:9223372036855", "1:9223372036854775807", "-2562047789"])).into(),
-            _ => {
-                let odd = number(r);
-                if odd.trim().is_empty() || r.once_in(2) { (*r.pick(&["g", "-", "+-1", "99999999999999999999999999", "1.5"])).into() } else { odd }
-            }
-        };
-        lines.insert(r.below(lines.len() + 1), LINES[i].replace("{}", &wrong));
+        lines.insert(r.below(lines.len() + 1), faulty(r, i));
+    }
+    if fault == Fault::Greater {
+        for _ in 0..r.within(1, 2) {
+            let position = positions::greater(r);
+            lines.insert(r.below(lines.len() + 1), positions::line(r, &position));
+        }
+        if r.once_in(2) {
+            let i = r.below(LINES.len());
+            lines.insert(r.below(lines.len() + 1), faulty(r, i));
+        }
     }
     let mut bytes = lines.join(*r.pick(&["\n", "\n", "\r\n", "\n# a remark\n\n"])).into_bytes();
     if fault == Fault::HighByte {
@@ -466,7 +469,11 @@ fn late(r: &mut Random, unit: &[u8]) -> i64 {
 fn generate(world: &World, r: &mut Random) -> Request {
     // whether the unit has about 32 bands
     let crowd = r.once_in(3);
-    let fault = if crowd { crowd_fault(r) } else { fault(r) };
+    let fault = match crowd {
+        true => crowd_fault(r),
+        false if r.once_in(14) => Fault::Greater,
+        false => fault(r),
+    };
     // whether its start is near the end of the range (1), or near the other end (-1)
     let end = *r.pick(&[0, 0, 0, 0, 0, 1, 1, 1, -1]);
     // the cue of a text of no bytes is at the front of the file
@@ -517,6 +524,7 @@ fn generate(world: &World, r: &mut Random) -> Request {
     let position = positions[cue];
     match fault {
         Fault::NoCue => cue = *r.pick(&[cues, cues + 1, 65535]),
+        Fault::Greater if r.once_in(6) => cue = *r.pick(&[cues + 2, 65535]),
         Fault::Past if short.is_some() => file.clear(),
         Fault::Past => positions[cue] = file.len() + r.below(3),
         Fault::NoUnit => match r.below(3) {
@@ -540,10 +548,15 @@ fn generate(world: &World, r: &mut Random) -> Request {
         Fault::OtherPlace => positions[cue] = r.below(file.len()),
         _ => {}
     }
+    if r.once_in(24) {
+        // the greatest position that is stored, of this cue or of another
+        positions[r.below(cues)] = u32::MAX as usize;
+    }
     match r.below(50) {
         0..3 => stream = second,
         3 | 4 => stream = another(r, stream),
         5 | 6 => stream = above(r, stream).min(65535),
+        7..15 if fault == Fault::Greater => stream = above(r, stream).min(65535),
         _ => {}
     }
     let text = short.unwrap_or_else(|| text(r, fault, &starts, &positions));
@@ -622,22 +635,25 @@ impl Lent {
 }
 
 fn compare(side: &Side, q: &Request) -> Outcome {
-    let mut o = LENT.with(|lent| compared(&mut lent.borrow_mut(), side, q));
-    o.met.extend(empty::met(&o, parts(&q.bytes).0));
+    let (text, _, cue, stream) = parts(&q.bytes);
+    let Asked { expected, panicked, said } = asked(side, text, ANY);
+    let mut o = LENT.with(|lent| compared(&mut lent.borrow_mut(), side, q, expected, panicked));
+    o.met.extend(empty::met(&o, text));
+    o.met.extend(stored::met(&o, text, &said, Some(cue)));
+    o.met.extend((o.rule == Some(stored::GREATER) && stream > TOP_STREAM).then_some(stored::NO_STREAM));
     o
 }
 
 const SHORT: [(&str, u8); 2] = [("22: a map is lent, and too short", 22), ("24: a canvas is lent, and too short", 24)];
 const BEFORE: &str = "22 and 24 are checked before 25 and 26";
 
-fn compared(lent: &mut Lent, side: &Side, q: &Request) -> Outcome {
+fn compared(lent: &mut Lent, side: &Side, q: &Request, expected: Expected, panicked: Option<String>) -> Outcome {
     let mut o = Outcome::default();
     let (text, file, cue, stream) = parts(&q.bytes);
     // as much as a refusal before the unit may meet
     let some = [64, 64, 256];
-    let (index, panicked) = expected(side, text, ANY);
     (o.panicked, o.empty) = (panicked, side.empty.rule(text));
-    let mut index = match index {
+    let mut index = match expected {
         Expected::Refused(number, rule) => {
             o.rule = rule;
             let a = lent.ask(q, some);
@@ -685,6 +701,7 @@ fn compared(lent: &mut Lent, side: &Side, q: &Request) -> Outcome {
             o.rule = Some("12: the original leaves the cue out");
             let a = lent.ask(q, some);
             lent.refused(&mut o, &a, 12, some, &[]);
+            o.met.extend((index.cues[cue].1 == u32::MAX as u64).then_some(stored::LAST_PAST));
         }
         Ok(Seen::None { handed_on, refused }) => {
             o.rule = Some("13: the original hands on the rest of the file, and its decoder refuses that");
@@ -735,7 +752,7 @@ fn compared(lent: &mut Lent, side: &Side, q: &Request) -> Outcome {
 pub fn rooms(side: &Side, q: &Request) -> [usize; 3] {
     let some = [64, 1024, 4096];
     let (text, file, cue, stream) = parts(&q.bytes);
-    let Expected::Given(index) = expected(side, text, ANY).0 else { return some };
+    let Expected::Given(index) = asked(side, text, ANY).expected else { return some };
     if stream > TOP_STREAM || cue >= index.cues.len() {
         return some;
     }

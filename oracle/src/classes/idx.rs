@@ -1,18 +1,24 @@
 // Index texts, whole (`CLASS`; n: how many starts and how many positions the lent buffers hold) and one cue of them (`CUE`; n: the cue).
 use crate::class::*;
+use crate::classes::positions;
 use crate::empty::{self, BLANKS, GIVEN, NEAR, REFUSED};
 use crate::port;
 use crate::random::Random;
-use crate::side::{Index, Side};
+use crate::side::{Index, Line, Said, Side};
+use crate::stored::{self, GREATER};
 
 pub const CLASS: Class = Class {
     name: "idx",
     fixed,
     generate,
     compare,
-    refusals: &[1, 2, 3, 4, 5, 6, 7, 8, 9, 10],
+    refusals: &[1, 2, 3, 4, 5, 6, 7, 8, 9, 10, 41],
     met: &[GIVEN, REFUSED, NEAR],
-    rarer: &[],
+    rarer: &[
+        &[stored::LAST, stored::UNREAD, stored::LEAST, stored::MOST, stored::DECIMAL, stored::BYTE],
+        &[stored::NO_ROOM, stored::AFTER, stored::FULL_AFTER, stored::FULL],
+        &stored::FAULTY,
+    ],
     accepted: true,
     dear: 1,
 };
@@ -21,9 +27,13 @@ pub const CUE: Class = Class {
     fixed: fixed_cues,
     generate: generate_cue,
     compare: compare_cue,
-    refusals: &[1, 2, 3, 4, 5, 6, 7, 8, 9, 11],
+    refusals: &[1, 2, 3, 4, 5, 6, 7, 8, 9, 11, 41],
     met: &[GIVEN, REFUSED, NEAR],
-    rarer: &[],
+    rarer: &[
+        &[stored::LAST, stored::UNREAD, stored::LEAST, stored::MOST, stored::DECIMAL, stored::BYTE],
+        &[stored::EARLIER, stored::ITS, stored::LATER, stored::NO_CUE, stored::AFTER],
+        &stored::FAULTY,
+    ],
     accepted: true,
     dear: 1,
 };
@@ -57,7 +67,13 @@ fn fixed(world: &World, each: &mut dyn FnMut(Request)) {
     each_word(&["0x", "1", "f", "g", ",", " ", "+", "0"], 5, &mut |w| ask(format!("palette:{w}")));
     each_word(&["1", ":", "+", "-", ",", " ", "9223372036854775807"], 5, &mut |w| ask(format!("timestamp:{w},filepos:0")));
     each_word(&["0x", "1", "a", "+", " ", "ffffffffffffffff", "18446744073709551615"], 5, &mut |w| ask(format!("timestamp:0,filepos:{w}")));
+    each_word(&["0x", "+", "0", "1", "00000000", "ffffffff"], 5, &mut |w| ask(format!("timestamp:0,filepos:{w}")));
     each_word(&["timestamp:", "filepos:", "0", ",", "\n", "#", "size:", "1x1"], 5, &mut |w| ask(w.into()));
+    positions::fixed(&mut |text| {
+        for n in (0..4).flat_map(|starts| (0..4).map(move |positions| [starts, positions, 0, 0])) {
+            each(Request { bytes: text.clone().into_bytes(), n });
+        }
+    });
     // all texts of up to two bytes
     for a in 0..=255 {
         each(Request { bytes: vec![a], n: [9, 9, 0, 0] });
@@ -106,6 +122,11 @@ fn fixed_cues(world: &World, each: &mut dyn FnMut(Request)) {
             }
         }
     }
+    positions::fixed(&mut |text| {
+        for cue in 0..4 {
+            each(Request { bytes: text.clone().into_bytes(), n: [cue, 0, 0, 0] });
+        }
+    });
     for text in SHORT_TEXTS {
         for cue in [0, 1, 2, 65535, 65536, 1 << 32, usize::MAX - 1, usize::MAX] {
             each(Request { bytes: text.to_vec(), n: [cue, 0, 0, 0] });
@@ -138,6 +159,30 @@ pub fn number(r: &mut Random) -> String {
         6 => (*r.pick(&["9223372036854775807", "-9223372036854775808", "9223372036854775808", "2562047788", "2562047789", "65535", "65536", "000000000000000000000012"])).into(),
         _ => format!("{:02}", r.below(100)),
     }
+}
+
+// Lines that are faulty with something wrong in the place of `{}`, from 2 to 9.
+pub const LINES: [&str; 8] = [
+    "size: {}x5",
+    "size: 720x{}",
+    "palette: 0, {}, 1",
+    "timestamp: filepos: 0",
+    "timestamp: 0:0:1:0",
+    "timestamp: 0:{}:1, filepos: 0",
+    "timestamp: {}, filepos: 0",
+    "timestamp: 0:0:1, filepos: {}",
+];
+
+// One of these lines; what stands in the place may be sound.
+pub fn faulty(r: &mut Random, i: usize) -> String {
+    let wrong = match i {
+        6 => (*r.pick(&["2562047789", "9223372036854775807:0:0:0", "0:0:9223372036855", "1:9223372036854775807", "-2562047789"])).into(),
+        _ => {
+            let odd = number(r);
+            if odd.trim().is_empty() || r.once_in(2) { (*r.pick(&["g", "-", "+-1", "99999999999999999999999999", "1.5"])).into() } else { odd }
+        }
+    };
+    LINES[i].replace("{}", &wrong)
 }
 
 fn blank(r: &mut Random) -> &'static str {
@@ -175,7 +220,12 @@ pub fn line(r: &mut Random, out: &mut String) {
             } else {
                 format!("{:02}:{:02}:{:02}:{:03}", r.below(30), r.below(60), r.below(60), r.below(1000))
             };
-            let position = if r.once_in(4) { format!("{}{}", r.pick(&["", "0x", "0x0x", "+", "0X"]), number(r)) } else { format!("{:09x}", r.below(1 << 24)) };
+            let position = match r.below(16) {
+                0..4 => format!("{}{}", r.pick(&["", "0x", "0x0x", "+", "0X"]), number(r)),
+                4 => positions::kept(r),
+                5 if r.once_in(2) => positions::greater(r),
+                _ => format!("{:09x}", r.below(1 << 24)),
+            };
             let mut parts = vec![time, format!("filepos:{}{position}", blank(r))];
             match r.below(16) {
                 0 => {
@@ -236,6 +286,10 @@ fn generate(world: &World, r: &mut Random) -> Request {
     if r.once_in(8) {
         return Request { bytes: short_text(r), n: [r.below(3), r.below(3), 0, 0] };
     }
+    if r.once_in(6) {
+        let n = if r.once_in(2) { [12, 12, 0, 0] } else { [r.below(6), r.below(6), 0, 0] };
+        return Request { bytes: positions::text(r), n };
+    }
     let bytes = text(world, r);
     let mut n = [12, 12, 0, 0];
     if r.once_in(10) {
@@ -252,7 +306,7 @@ fn generate_cue(world: &World, r: &mut Random) -> Request {
         let cue = if r.once_in(2) { 0 } else { *r.pick(&[1, 2, 255, 256, 65535, usize::MAX]) };
         return Request { bytes: short_text(r), n: [cue, 0, 0, 0] };
     }
-    let mut bytes = text(world, r);
+    let mut bytes = if r.once_in(6) { positions::text(r) } else { text(world, r) };
     if r.once_in(6) {
         // two cues more, whose starts may be far apart
         for _ in 0..2 {
@@ -278,44 +332,78 @@ pub enum Expected {
 // Room for any number of cues.
 pub const ANY: [usize; 2] = [usize::MAX; 2];
 
-// What the port must say of a text with room for so many starts and positions, and the words of the original where it panicked.
-pub fn expected(side: &Side, bytes: &[u8], [starts, positions]: [usize; 2]) -> (Expected, Option<String>) {
+// What the port must say of a text, the words of the original where it panicked, and what is known of the text's positions.
+pub struct Asked {
+    pub expected: Expected,
+    pub panicked: Option<String>,
+    pub said: Said,
+}
+
+impl Asked {
+    fn new(expected: Expected) -> Asked {
+        Asked { expected, panicked: None, said: Said::default() }
+    }
+}
+
+// What is asked for of a text with room for so many starts and positions.
+pub fn asked(side: &Side, bytes: &[u8], [starts, positions]: [usize; 2]) -> Asked {
     const SHORT: Expected = Expected::Refused(10, Some("10: cue buffers are lent, and too short"));
     if (side.empty.no_bytes)(bytes) {
         let room = (side.empty.has_room)(starts, positions);
-        return (if room { Expected::Given((side.empty.index)()) } else { Expected::Refused(10, None) }, None);
+        return Asked::new(if room { Expected::Given((side.empty.index)()) } else { Expected::Refused(10, None) });
     }
     let room = starts.min(positions);
     if bytes.iter().any(|&b| b >= 0x80) {
-        return (Expected::Refused(1, Some("1: a byte of 80 or above")), None);
+        return Asked::new(Expected::Refused(1, Some("1: a byte of 80 or above")));
     }
     let text = std::str::from_utf8(bytes).expect("bytes below 80");
-    match tried(|| (side.index)(text)) {
-        Ok(Ok(index)) if index.cues.len() <= room => return (Expected::Given(index), None),
-        Ok(Ok(_)) => return (SHORT, None),
-        _ => {}
-    }
-    // the first line at which the text so far is refused, or has a cue too many
-    let mut end = 0;
+    let whole = match tried(|| (side.index)(text)) {
+        Ok(Ok(index)) if index.cues.iter().any(|cue| (side.stored.above)(cue.1)) => Some(index),
+        Ok(Ok(index)) => {
+            let last = index.cues.iter().any(|cue| cue.1 == u32::MAX as u64);
+            let expected = if index.cues.len() <= room { Expected::Given(index) } else { SHORT };
+            return Asked { expected, panicked: None, said: Said { last, ..Default::default() } };
+        }
+        _ => None,
+    };
+    // of each line what the original says of the text so far, up to a refusal, and of the line alone
+    let (mut end, mut refusal, mut panicked, mut lines) = (0, 0, None, Vec::new());
     for part in text.split_inclusive('\n') {
         end += part.len();
-        match tried(|| (side.index)(&text[..end])) {
-            // a panic for any other reason is no answer that a rule covers
-            Err(words) => return (Expected::Refused(8, words.contains("overflow").then_some("8: a step of the sum leaves signed 64 bits")), Some(words)),
-            Ok(Err(message)) => return (Expected::Refused(number_of(&message), None), None),
-            Ok(Ok(index)) if index.cues.len() > room => return (SHORT, None),
-            Ok(Ok(_)) => {}
+        let mut cues = 0;
+        if refusal == 0 {
+            match tried(|| (side.index)(&text[..end])) {
+                Err(words) => (refusal, panicked) = (8, Some(words)),
+                Ok(Err(message)) => refusal = number_of(&message),
+                Ok(Ok(index)) => cues = index.cues.len(),
+            }
         }
+        let alone = tried(|| (side.index)(part)).ok().and_then(Result::ok);
+        let position = alone.and_then(|index| if let [(_, position)] = index.cues[..] { Some(position) } else { None });
+        lines.push(Line { refusal, cues, position });
     }
-    (Expected::Refused(255, None), Some("the whole text is refused, and no line of it".into()))
+    let at = (side.stored.first)(&lines, room);
+    let (expected, panicked) = match (at, whole) {
+        (Some((_, 8)), _) => {
+            // a panic for any other reason is no answer that a rule covers
+            let rule = panicked.iter().any(|words| words.contains("overflow")).then_some("8: a step of the sum leaves signed 64 bits");
+            (Expected::Refused(8, rule), panicked)
+        }
+        (Some((_, 10)), _) => (SHORT, None),
+        (Some((_, 41)), _) => (Expected::Refused(41, Some(GREATER)), None),
+        (Some((_, number)), _) => (Expected::Refused(number, None), None),
+        (None, Some(index)) => (Expected::Given(index), None),
+        (None, None) => (Expected::Refused(255, None), Some("the whole text is refused, and no line of it".into())),
+    };
+    Asked { expected, panicked, said: Said { last: false, lines, at, room } }
 }
 
 fn compare(side: &Side, q: &Request) -> Outcome {
     let [a, b, ..] = q.n;
-    let (mut starts, mut positions) = (vec![START; a], vec![NUMBER as u64; b]);
+    let (mut starts, mut positions) = (vec![START; a], vec![NUMBER as u32; b]);
     let (mut palette, mut numbers) = ([BYTE; port::COLOURS], [NUMBER; port::INDEX_NUMBERS]);
     let refusal = port::parse_idx(&q.bytes, &mut starts, &mut positions, &mut palette, &mut numbers);
-    let (expected, panicked) = expected(side, &q.bytes, [a, b]);
+    let Asked { expected, panicked, said } = asked(side, &q.bytes, [a, b]);
     let mut o = Outcome { refusal, panicked, empty: side.empty.rule(&q.bytes), ..Default::default() };
     let mut stored = 0;
     match expected {
@@ -329,20 +417,21 @@ fn compare(side: &Side, q: &Request) -> Outcome {
             o.must(refusal == 0, || format!("an accepted text; the port says {refusal}"));
             if refusal == 0 {
                 stored = numbers[port::CUES].min(a).min(b);
-                let said = Index {
+                let given = Index {
                     size: (numbers[port::WIDTH] as u16, numbers[port::HEIGHT] as u16),
                     palette: palette.to_vec(),
                     has_palette: numbers[port::COLOURED] == 1,
-                    cues: starts[..stored].iter().copied().zip(positions[..stored].iter().copied()).collect(),
+                    cues: starts[..stored].iter().copied().zip(positions[..stored].iter().map(|&p| p.into())).collect(),
                 };
-                o.must(said == index, || format!("{index:?}; the port says {said:?}"));
+                o.must(given == index, || format!("{index:?}; the port says {given:?}"));
                 o.must(numbers == [index.size.0 as usize, index.size.1 as usize, index.has_palette as usize, index.cues.len()], || format!("numbers {numbers:?} for {index:?}"));
             }
         }
     }
     o.must(starts[stored..].iter().all(|&s| s == START), || "starts are written where nothing is stored".into());
-    o.must(positions[stored..].iter().all(|&p| p == NUMBER as u64), || "positions are written where nothing is stored".into());
+    o.must(positions[stored..].iter().all(|&p| p == NUMBER as u32), || "positions are written where nothing is stored".into());
     o.met.extend(empty::met(&o, &q.bytes));
+    o.met.extend(stored::met(&o, &q.bytes, &said, None));
     o
 }
 
@@ -350,7 +439,7 @@ fn compare_cue(side: &Side, q: &Request) -> Outcome {
     let cue = q.n[0];
     let (mut start, mut palette, mut numbers) = (START, [BYTE; port::COLOURS], [NUMBER as u64; port::CUE_NUMBERS]);
     let refusal = port::pick_cue(&q.bytes, cue, &mut start, &mut palette, &mut numbers);
-    let (expected, panicked) = expected(side, &q.bytes, ANY);
+    let Asked { expected, panicked, said } = asked(side, &q.bytes, ANY);
     let mut o = Outcome { refusal, panicked, empty: side.empty.rule(&q.bytes), ..Default::default() };
     let mut refused = true;
     match expected {
@@ -385,5 +474,6 @@ fn compare_cue(side: &Side, q: &Request) -> Outcome {
     }
     o.must(!refused || start == START && palette == [BYTE; port::COLOURS] && numbers == [NUMBER as u64; port::CUE_NUMBERS], || "start, palette or numbers are written on a refusal".into());
     o.met.extend(empty::met(&o, &q.bytes));
+    o.met.extend(stored::met(&o, &q.bytes, &said, Some(cue)));
     o
 }

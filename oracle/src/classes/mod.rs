@@ -1,4 +1,4 @@
-// The classes. A further one is a module here with a `Class`, and a line in `all`; `crowd` draws for several of them.
+// The classes. A further one is a module here with a `Class`, and a line in `all`; `crowd` and `positions` draw for several of them.
 pub mod bands;
 pub mod canvas;
 pub mod control;
@@ -7,6 +7,7 @@ pub mod field;
 pub mod idx;
 pub mod packets;
 pub mod pes;
+pub mod positions;
 pub mod unit;
 pub mod written;
 

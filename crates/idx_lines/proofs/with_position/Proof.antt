@@ -1,9 +1,10 @@
--- `idx_lines::with_position` meets its contract: by what the position is. Assumes nothing.
+-- `idx_lines::with_position` meets its contract: by what the position is, and whether it is too large. Assumes nothing.
 use borrow.Author.Needs.{needs}
+use native.Mathlib.Omega.{arith}
 use mathlib.Core.Path.{refl}
 use mir.Syntax.{w64}
 use mir.Facts.{toZ-ofZ}
-use Rattle.idx_lines_model.proofs.Stamps.{beside-bad, beside-good}
+use Rattle.idx_lines_model.proofs.Stamps.{beside-bad, beside-large, beside-good}
 use Rattle.idx_lines.proofs.with_position.Statement.{statement}
 use Rattle.idx_lines.proofs.with_position.Tie as tie
 
@@ -22,22 +23,43 @@ trim-requires c κs = search needs
 parse-position-requires : tie.Need-parse-position-requires
 parse-position-requires c κs = search needs
 
-enum-told : tie.Need-enum-told
-enum-told c = search needs
-
 enum-known-v : tie.Need-enum-known-v
 enum-known-v c = search needs
 
+enum-told : tie.Need-enum-told
+enum-told c = search needs
+
 returns : tie.Need-returns
 returns c =
-    let s = c .before .before .before .before .before .before in
-    beside-bad (s .args .z) (s .args .z) refl (s .args .p .now) (c .before .before .before .trim .result .now) (c .before .before .parse-position .result) (c .before .before .before .trim .ensures) (c .before .before .parse-position .ensures) (c .enum-told .given .1)
+    let read = c .before .before in
+    let cut = read .before in
+    let start = cut .before .before .before in
+    beside-bad (start .args .z) (start .args .z) refl (start .args .p .now)
+    (cut .trim .result .now) (read .parse-position .result) (cut .trim .ensures) (read .parse-position .ensures)
+    (c .enum-told .given .1)
 
 returns-2 : tie.Need-returns-2
 returns-2 c =
-    let s = c .before .before .before .before .before .before .before in
-    let t = c .before .before .before .before in
-    beside-good _ (s .args .z) (toZ-ofZ {w = w64} (s .fits .z)) (s .args .p .now) (t .trim .result .now) (c .before .before .before .parse-position .result) (t .trim .ensures) (c .before .before .before .parse-position .ensures) _ (c .before .v .given .1)
+    let is = c .before .before in
+    let read = is .before .before in
+    let cut = read .before in
+    let start = cut .before .before .before in
+    beside-large (start .args .z) (start .args .z) refl (start .args .p .now)
+    (cut .trim .result .now) (read .parse-position .result) (cut .trim .ensures) (read .parse-position .ensures)
+    _ (is .v .given .1) (c .if1 .taken)
+
+cast-position : tie.Need-cast-position
+cast-position c = omega (arith, c .if1 .left)
+
+returns-3 : tie.Need-returns-3
+returns-3 c =
+    let is = c .before .before in
+    let read = is .before .before in
+    let cut = read .before in
+    let start = cut .before .before .before in
+    beside-good _ (start .args .z) (toZ-ofZ {w = w64} (start .fits .z)) (start .args .p .now)
+    (cut .trim .result .now) (read .parse-position .result) (cut .trim .ensures) (read .parse-position .ensures)
+    _ (is .v .given .1) (c .if1 .left)
 
 pub with-position-spec : {M : Type 1} → statement M
 with-position-spec =
@@ -48,7 +70,9 @@ with-position-spec =
     part-trim-end
     trim-requires
     parse-position-requires
-    enum-told
     enum-known-v
+    enum-told
     returns
-    returns-2)
+    returns-2
+    cast-position
+    returns-3)

@@ -14,14 +14,14 @@ abbrev μ-loop : tie.MeasureT-loop
 loop-holds : tie.Need-loop-holds Inv-loop μ-loop
 loop-holds c = search needs
 
-mul-mixed : tie.Need-mul-mixed Inv-loop μ-loop
-mul-mixed c = search needs
+mul-mixed-position : tie.Need-mul-mixed-position Inv-loop μ-loop
+mul-mixed-position c = search needs
 
-shared-slice-read-mixed : tie.Need-shared-slice-read-mixed Inv-loop μ-loop
-shared-slice-read-mixed c = search needs
+shared-slice-read-mixed-position : tie.Need-shared-slice-read-mixed-position Inv-loop μ-loop
+shared-slice-read-mixed-position c = search needs
 
-mixed-requires : tie.Need-mixed-requires Inv-loop μ-loop
-mixed-requires c κs = search needs
+mixed-position-requires : tie.Need-mixed-position-requires Inv-loop μ-loop
+mixed-position-requires c κs = search needs
 
 add-i : tie.Need-add-i Inv-loop μ-loop
 add-i c = search needs
@@ -42,9 +42,9 @@ mixed-positions-spec =
     Inv-loop
     μ-loop
     loop-holds
-    mul-mixed
-    shared-slice-read-mixed
-    mixed-requires
+    mul-mixed-position
+    shared-slice-read-mixed-position
+    mixed-position-requires
     add-i
     loop-less
     loop-again

@@ -14,7 +14,7 @@ abbrev start : tie.After-pick-cue → tie.Start
 start c = c .before .before .before .before .before .before
 
 abbrev there : tie.After-extract-spu → tie.Else1
-there c = c .before .before
+there c = c .before .before .before
 
 abbrev bare : tie.After-paint-found → tie.After-n
 bare c = c .before .before .before .before .before
@@ -43,6 +43,9 @@ returns c =
     kept _ _ _ _ _ _
     (cue-refused (a .text .now) (a .file .now) (a .cue) (a .stream) (a .scratch .now) (a .pixels .now) (a .canvas .now) _
     (p .pick-cue .ensures .0) (c .before .if1 .taken) _ (c .first-refusal .ensures))
+
+cast-position : tie.Need-cast-position
+cast-position c = search needs
 
 extract-spu-requires : tie.Need-extract-spu-requires
 extract-spu-requires c κs = search needs
@@ -123,6 +126,7 @@ decode-cue-spec =
     pick-cue-requires
     first-refusal-requires
     returns
+    cast-position
     extract-spu-requires
     enum-known-n
     paint-found-requires

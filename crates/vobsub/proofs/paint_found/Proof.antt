@@ -7,6 +7,9 @@ use Rattle.vobsub.proofs.paint_found.Tie as tie
 abbrev bytes : tie.After-paint-unit → tie.After-unit-part
 bytes c = c .before .before .before
 
+cast-position : tie.Need-cast-position
+cast-position c = search needs
+
 unit-part-requires : tie.Need-unit-part-requires
 unit-part-requires c κs = search needs
 
@@ -26,4 +29,4 @@ returns c =
 
 pub paint-found-spec : {M : Type 1} → statement M
 paint-found-spec =
-    tie.close (tie.spec unit-part-requires paint-unit-requires same-length same-length-2 returns)
+    tie.close (tie.spec cast-position unit-part-requires paint-unit-requires same-length same-length-2 returns)

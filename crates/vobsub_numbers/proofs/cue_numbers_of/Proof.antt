@@ -12,8 +12,11 @@ flag-requires-2 c κs = search needs
 count-of-requires : tie.Need-count-of-requires
 count-of-requires c κs = search needs
 
+cast-position : tie.Need-cast-position
+cast-position c = search needs
+
 returns : tie.Need-returns
 returns c = search needs
 
 pub cue-numbers-of-spec : {M : Type 1} → statement M
-cue-numbers-of-spec = tie.close (tie.spec flag-requires flag-requires-2 count-of-requires returns)
+cue-numbers-of-spec = tie.close (tie.spec flag-requires flag-requires-2 count-of-requires cast-position returns)
