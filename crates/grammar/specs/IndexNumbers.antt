@@ -58,7 +58,7 @@ Stripped (suc n) s r = (t : List ℕ) × (s ≡ 48 ∷ 120 ∷ t) × Stripped n 
 abbrev pub Hex : ℕ → List ℕ → ℕ → Type 0
 Hex top s v = (n : ℕ) × (r : List ℕ) × Stripped n s r × Unsigned 16 top r v
 
--- the largest position that a line may say (FORMAT 1.8)
+-- the largest number that is read as a position; what is listed has a smaller bound, `top-stored` (FORMAT 1.8)
 abbrev pub top-position : ℕ
 top-position = 2 ^ 64 - 1
 
