@@ -1,7 +1,8 @@
 // Real titles, from beside the repository or from the folder that VOBSUB_TITLES names.
 use std::env;
 use std::fs;
-use std::path::PathBuf;
+use std::io;
+use std::path::{Path, PathBuf};
 
 pub struct Title {
     pub name: String,
@@ -15,17 +16,25 @@ pub fn folder() -> PathBuf {
 }
 
 pub fn titles() -> Vec<Title> {
-    let folder = folder();
-    let mut names: Vec<_> = fs::read_dir(&folder).unwrap_or_else(|e| panic!("titles, {}: {e}", folder.display())).map(|e| e.unwrap().path()).collect();
-    names.sort();
-    names
-        .into_iter()
-        .filter(|path| path.join("title.idx").exists())
-        .map(|path| {
-            let text = fs::read_to_string(path.join("title.idx")).expect("title.idx");
-            let file = fs::read(path.join("title.sub")).expect("title.sub");
-            let positions = (crate::original::adapter::SIDE.positions)(&text);
-            Title { name: path.file_name().unwrap().to_string_lossy().into_owned(), text, file, positions }
-        })
-        .collect()
+    read(&folder()).unwrap_or_else(|(path, error)| {
+        eprintln!("titles: {}: {error}", path.display());
+        std::process::exit(2)
+    })
+}
+
+// Of each folder that has an index text, in the order of their names.
+fn read(folder: &Path) -> Result<Vec<Title>, (PathBuf, io::Error)> {
+    let at = |path: &Path, error| (path.to_path_buf(), error);
+    let found = fs::read_dir(folder).and_then(|entries| entries.map(|e| e.map(|e| e.path())).collect::<io::Result<Vec<_>>>());
+    let mut paths = found.map_err(|e| at(folder, e))?;
+    paths.sort();
+    let mut titles = Vec::new();
+    for path in paths.iter().filter(|path| path.join("title.idx").exists()) {
+        let (index, sub) = (path.join("title.idx"), path.join("title.sub"));
+        let text = fs::read_to_string(&index).map_err(|e| at(&index, e))?;
+        let file = fs::read(&sub).map_err(|e| at(&sub, e))?;
+        let positions = (crate::original::adapter::SIDE.positions)(&text);
+        titles.push(Title { name: path.file_name().unwrap_or_default().to_string_lossy().into_owned(), text, file, positions });
+    }
+    Ok(titles)
 }

@@ -3,7 +3,7 @@
 // n: how scratch, map and canvas are lent (0 exactly as long as needed, 1 longer, 2 one short, 3 none).
 use crate::class::*;
 use crate::classes::bands::{self, Area, about};
-use crate::classes::idx::{ANY, Asked, Expected, LINES, SHORT_TEXTS, TIMES, asked, faulty, line, short_text};
+use crate::classes::idx::{ANY, Asked, Expected, LINES, SHORT_TEXTS, TIMES, asked, far, far_duration, faulty, line, short_text};
 use crate::classes::packets::{above, another, in_packets};
 use crate::classes::unit::{area, by_mode, change, delay, made, put, set_word};
 use crate::classes::{crowd, field, positions};
@@ -684,9 +684,9 @@ fn compared(lent: &mut Lent, side: &Side, q: &Request, expected: Expected, panic
     let mut lasts = None;
     let seen = tried(|| (side.seen)(&index, file, cue, false)).or_else(|words| {
         // the difference of two starts leaves signed 64 bits, of these or of others in the text: without the others there is none
-        o.rule = words.contains("overflow").then_some("durations: the ceiling, and a difference below signed 64 bits");
+        o.rule = far(&words);
         o.panicked = Some(words);
-        lasts = index.cues.get(cue + 1).map(|next| (next.0 as i128 - index.cues[cue].0 as i128).clamp(0, i64::MAX as i128) as i64);
+        lasts = far_duration(index.cues[cue].0, index.cues.get(cue + 1).map(|next| next.0));
         tried(|| (side.seen)(&index, file, cue, true))
     });
     match seen {

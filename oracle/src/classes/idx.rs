@@ -329,6 +329,16 @@ pub enum Expected {
     Given(Index),
 }
 
+// The rule, where the original's words for a panic say that the difference of two starts leaves signed 64 bits.
+pub fn far(words: &str) -> Option<&'static str> {
+    words.contains("overflow").then_some("durations: the ceiling, and a difference below signed 64 bits")
+}
+
+// The duration that is asked for there.
+pub fn far_duration(start: i64, next: Option<i64>) -> Option<i64> {
+    next.map(|next| (next as i128 - start as i128).clamp(0, i64::MAX as i128) as i64)
+}
+
 // Room for any number of cues.
 pub const ANY: [usize; 2] = [usize::MAX; 2];
 
@@ -458,10 +468,9 @@ fn compare_cue(side: &Side, q: &Request) -> Outcome {
             let lasts = match tried(|| (side.duration)(theirs, next)) {
                 Ok(lasts) => lasts,
                 Err(words) => {
-                    // a difference that leaves signed 64 bits
-                    o.rule = words.contains("overflow").then_some("durations: the ceiling, and a difference below signed 64 bits");
+                    o.rule = far(&words);
                     o.panicked = Some(words);
-                    Some((next.expect("a next cue") as i128 - theirs as i128).clamp(0, i64::MAX as i128) as i64)
+                    far_duration(theirs, next)
                 }
             };
             o.both = refusal == 0 && o.panicked.is_none() && o.empty.is_none();
