@@ -1,7 +1,7 @@
 // What a class of requests is, and what comparing one request gives.
 use crate::random::Random;
 use crate::side::{Side, Spot};
-use crate::titles::{Title, titles};
+use crate::titles::{Title, folder, stop, titles};
 use crate::walk::{stream_at, walk};
 use std::panic::{AssertUnwindSafe, catch_unwind};
 
@@ -35,6 +35,9 @@ impl World {
                     }
                 }
             }
+        }
+        if world.units.is_empty() {
+            stop(&folder(), "no title has a cue with a unit");
         }
         world
     }

@@ -16,10 +16,13 @@ pub fn folder() -> PathBuf {
 }
 
 pub fn titles() -> Vec<Title> {
-    read(&folder()).unwrap_or_else(|(path, error)| {
-        eprintln!("titles: {}: {error}", path.display());
-        std::process::exit(2)
-    })
+    read(&folder()).unwrap_or_else(|(path, error)| stop(&path, &error.to_string()))
+}
+
+// Ends with a line: nothing can be asked of these titles.
+pub fn stop(path: &Path, why: &str) -> ! {
+    eprintln!("titles: {}: {why}", path.display());
+    std::process::exit(2)
 }
 
 // Of each folder that has an index text, in the order of their names.

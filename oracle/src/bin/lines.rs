@@ -5,7 +5,7 @@
 // number of a refused index is the one that the comparison of index texts asks for. A cue with too many bands, by limit.rs, is listed as refused
 // with 34, and one that the original shows and that has a time outside signed 64 bits, by times.rs, as refused with 33.
 use oracle::class::tried;
-use oracle::classes::idx::{ANY, Expected, asked, far, far_duration};
+use oracle::classes::idx::{ANY, Asked, Expected, asked, far, far_duration};
 use oracle::side::{Delays, Spot, number_of};
 use oracle::walk::walk;
 use std::collections::BTreeMap;
@@ -53,20 +53,17 @@ impl Lines {
         };
         let side = oracle::original::adapter::SIDE;
         self.by(side.empty.rule(&text));
-        let index = match asked(&side, &text, ANY).expected {
+        let Asked { expected, panicked, .. } = asked(&side, &text, ANY);
+        let index = match expected {
             Expected::Given(index) => index,
             Expected::Refused(number, rule) => {
-                self.by(rule);
+                // a panic that no rule covers is no answer
+                assert!(self.by(rule) || panicked.is_none(), "{panicked:?}");
                 return self.add(format!("index refused {number}"));
             }
         };
         self.add(format!("cues {}", index.cues.len()));
         for (n, &(start, position)) in index.cues.iter().enumerate() {
-            let next = index.cues.get(n + 1).map(|c| c.0);
-            let duration = tried(|| (side.duration)(start, next)).unwrap_or_else(|words| {
-                assert!(self.by(far(&words)), "{words}");
-                far_duration(start, next)
-            });
             let position = position as usize;
             let walk = walk(&file, position, 0);
             self.by(walk.rule());
@@ -85,13 +82,19 @@ impl Lines {
                 let leaves = self.by(side.times.rule(Delays::of(start, &decoded, counts)));
                 if leaves { Err(33) } else { Ok((decoded, counts.codes)) }
             });
-            self.add(match shown {
+            let line = match shown {
                 Ok((d, codes)) => {
+                    let next = index.cues.get(n + 1).map(|c| c.0);
+                    let duration = tried(|| (side.duration)(start, next)).unwrap_or_else(|words| {
+                        assert!(self.by(far(&words)), "{words}");
+                        far_duration(start, next)
+                    });
                     let duration = duration.map_or("-".to_string(), |d| d.to_string());
                     format!("{n} {start} {duration} {} {} {} {} {} {} {codes}", d.numbers[0], d.numbers[1], d.width, d.height, d.numbers[7], d.numbers[9])
                 }
                 Err(number) => format!("{n} refused {number}"),
-            });
+            };
+            self.add(line);
         }
     }
 }
@@ -102,11 +105,11 @@ fn main() {
         eprintln!("usage: lines DIR FILE");
         exit(2)
     };
-    // a panic of the original is an answer
+    // a panic of the original is an answer, or is told in a line
     std::panic::set_hook(Box::new(|_| {}));
     let mut lines = Lines::default();
     if let Err(words) = tried(|| lines.list(folder)) {
-        eprintln!("lines: the original panicked on {}: {words}", folder.display());
+        eprintln!("lines: a panic on {}: {words}", folder.display());
         exit(2);
     }
     if let Err(error) = fs::write(path, &lines.text) {

@@ -4,7 +4,7 @@ use oracle::classes::unit::{area, change, put, set_word};
 use oracle::original;
 use oracle::oxideav_core;
 use oracle::port;
-use oracle::titles::{Title, titles};
+use oracle::titles::{Title, folder, stop, titles};
 use oracle::walk::{stream_at, walk};
 use std::hint::black_box;
 
@@ -324,7 +324,8 @@ fn one_nibble() -> Vec<u8> {
 fn main() {
     let mut lent = Lent { starts: vec![0; 2000], positions: vec![0; 2000], palette: [0; port::COLOURS], scratch: vec![0; 65536], map: vec![0; 1 << 24], canvas: vec![0; 1 << 22], bands: [0; port::BANDS], numbers: [0; port::NUMBERS] };
     for title in titles().iter().filter(|t| t.name.starts_with("bench")) {
-        let units: Vec<Vec<u8>> = title.positions.iter().map(|&p| original::extract_spu(&title.file[p..]).expect("a unit")).collect();
+        let units: Option<Vec<Vec<u8>>> = title.positions.iter().map(|&p| original::extract_spu(title.file.get(p..)?)).collect();
+        let Some(units) = units.filter(|units| !units.is_empty()) else { stop(&folder().join(&title.name), "there is no cue, or one without a unit") };
         index(title, &mut lent);
         extract(&format!("{}, {} units from packets", title.name, units.len()), title, &mut lent);
         decode(&format!("{}, {} units to record, map and bands", title.name, units.len()), &units, &mut lent);
