@@ -138,6 +138,8 @@ build_alone() { # NAME FILE WORDS ..
 
 need_library() { "$root/library" || exit 2; }
 
+need_cc() { type -P cc > /dev/null || fail 2 "there is no \`cc\` on the PATH, and the C program is built with it"; }
+
 # The original, from VOBSUB_ORIGINAL or from beside the repository, and what builds it.
 need_original() {
     VOBSUB_ORIGINAL=$(absolute "${VOBSUB_ORIGINAL:-$(dirname -- "$root")/shared/docs/src}")
