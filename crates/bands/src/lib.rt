@@ -1,5 +1,7 @@
 // The bands of all colour changes of a unit whose control blocks were read before, at most 32, stored as words
 // (docs/FORMAT.md, 3.6, 3.7 and 4.5).
+#![tactic(auto)]
+
 ghost use Rattle.std.specs.Prelude.{◌≡◌, List, [], ◌≤◌, ◌<◌, ◌+◌, length};
 ghost use Rattle.std.proofs.Math.Option.{some};
 ghost use Rattle.std.proofs.lemmas.List.Edits.{sets};
@@ -35,6 +37,7 @@ fn fill_change(unit: &[u8], end: usize, p: usize, words: &mut [u16], to: usize) 
 }
 
 // The same of any command that was read before.
+#[tactic(auto, using(crate::proofs::Steps::changes))]
 fn fill_command(unit: &[u8], end: usize, at: usize, words: &mut [u16], to: usize) -> Place
     requires { (at < end) × (end ≤ length unit.now) × ((o : Order) × (order_at unit.now end (at + 1) (byte unit.now at) ≡ ok o) × (to + length (order_words o) ≤ length words.old)) }
     ensures { (o : Order) → order_at unit.now end (at + 1) (byte unit.now at) ≡ ok o → OrderFilled o (at + 1) to words.old result words.new }

@@ -16,7 +16,6 @@ use Rattle.bands_model.specs.Count.{bands_held}
 use Rattle.bands_model.specs.Answers.{count_of, stored, array_after, Stored}
 use Rattle.bands_model.specs.Claim.{PayloadBands, TooMany, Says}
 use Rattle.bands_model.specs.declared.BandAnswer.{BandAnswer}
-use Rattle.bands_model.specs.declared.BandAnswer.TheVariants as BandAnswer
 use Rattle.bands_model.proofs.Grammar.{listed-words, words-listed}
 use Rattle.bands_model.proofs.Refusals.{bands-refuses}
 use Rattle.bands_model.proofs.Look.{bands-counted}

@@ -6,7 +6,6 @@ use Rattle.grammar.specs.Bands.{most_bands, most_words}
 use Rattle.bands_model.specs.Bands.{bands_of, entries_of}
 use Rattle.bands_model.specs.Count.{bands_held}
 use Rattle.bands_model.specs.declared.BandAnswer.{BandAnswer}
-use Rattle.bands_model.specs.declared.BandAnswer.TheVariants as BandAnswer
 use Rattle.bands_model.specs.declared.Stop.{Stop}
 use Rattle.bands_model.specs.declared.Stop.TheVariants as stop
 

@@ -3,7 +3,6 @@ use Rattle.std.specs.Prelude.{ℕ, ◌≤◌, ◌<◌, ◌≡◌, ◌⊎◌, Lis
 use Rattle.outcome.specs.Outcome.{no_band_list, many_bands}
 use Rattle.grammar.specs.Bands.{Band, Bands, band_words, most_bands, record_words}
 use Rattle.bands_model.specs.declared.BandAnswer.{BandAnswer}
-use Rattle.bands_model.specs.declared.BandAnswer.TheVariants as BandAnswer
 
 -- the grammar lists bands in u from p on, before byte e, and ws are their words
 pub record Listing (u : List ℕ) (e p : ℕ) (ws : List ℕ) : Type 0 where

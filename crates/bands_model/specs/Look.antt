@@ -5,7 +5,6 @@ use Rattle.std.proofs.Math.Option.{Option, some, none}
 use Rattle.grammar.specs.Bands.{Band}
 use Rattle.grammar.specs.Look.{Look}
 use Rattle.bands_model.specs.declared.LookAnswer.{LookAnswer}
-use Rattle.bands_model.specs.declared.LookAnswer.TheVariants as LookAnswer
 
 abbrev pub look : ℕ → ℕ → Look
 look s a = record { selectors = s; alphas = a }

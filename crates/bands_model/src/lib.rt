@@ -1,7 +1,8 @@
 // Colour bands without their functions: the words of a payload, what stored words give at a place, the answers, laws and claim.
+#![tactic(auto)]
 
 // What a list of bands gives.
-#[derive(Drop)]
+#[derive(Clone, Copy)]
 pub enum BandAnswer {
     // How many words its bands take.
     Words(usize),
@@ -10,7 +11,7 @@ pub enum BandAnswer {
 }
 
 // What stands where a band's header may stand.
-#[derive(Drop)]
+#[derive(Clone, Copy)]
 pub enum Header {
     // The end of the list.
     End,
@@ -21,7 +22,7 @@ pub enum Header {
 }
 
 // What stands where an entry must stand.
-#[derive(Drop)]
+#[derive(Clone, Copy)]
 pub enum EntryRead {
     // No entry, or one that starts too far left.
     Bad,
@@ -30,7 +31,7 @@ pub enum EntryRead {
 }
 
 // Where the header and entry readers stop.
-#[derive(Drop)]
+#[derive(Clone, Copy)]
 pub enum Stop {
     // At the end of the list: the place after its last word.
     End(usize),
@@ -47,7 +48,7 @@ pub enum Stop {
 }
 
 // What stored bands give at a place of the display.
-#[derive(Drop)]
+#[derive(Clone, Copy)]
 pub enum LookAnswer {
     // The words of four selectors and four alphas, colour 0 in the top nibble.
     Found { selectors: u16, alphas: u16 },

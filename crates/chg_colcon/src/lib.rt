@@ -1,5 +1,7 @@
 // Colour bands: the lines and columns of a picture that have colours of their own (docs/FORMAT.md, section 4).
 // They are read from the bytes after a colour change's size word and stored as words, 3 + 3n for a band of n entries.
+#![tactic(auto)]
+
 ghost use Rattle.std.specs.Prelude.{◌≡◌, ◌≤◌, ◌<◌, ◌-◌, ◌+◌, ◌*◌, ◌^◌, length, drop, set};
 ghost use Rattle.bands_model.specs.Claim.{Says};
 ghost use Rattle.bands_model.specs.Bands.{word_of, header, head_of, entry_of, bands_of, entries_of};
@@ -135,7 +137,7 @@ fn entries_from(p: &[u8], left: u16, lo: u32, deep: usize, out: &mut [u16], at: 
 }
 
 // How far bands without entries go: the bytes taken, and the place after the last word.
-#[derive(Drop)]
+#[derive(Clone, Copy)]
 struct Run {
     taken: usize,
     at: usize,
@@ -170,7 +172,7 @@ fn bare_bands(p: &[u8], out: &mut [u16], from: usize) -> Run
 }
 
 // How far entries go: the bytes taken, the place after the last word, the entries to go and the least column of the next.
-#[derive(Drop)]
+#[derive(Clone, Copy)]
 struct EntryRun {
     taken: usize,
     at: usize,

@@ -41,7 +41,6 @@ use Rattle.rle_model.specs.Answers as field
 use Rattle.rle_model.specs.Claim as FieldClaim
 use Rattle.rle_model.proofs.Claim as FieldProof
 use Rattle.bands_model.specs.declared.BandAnswer.{BandAnswer}
-use Rattle.bands_model.specs.declared.BandAnswer.TheVariants as BandAnswer
 use Rattle.bands_model.specs.Answers.{Stored}
 use Rattle.bands_model.specs.Claim as BandsClaim
 use Rattle.bands_model.proofs.Claim as BandsProof
@@ -73,7 +72,6 @@ use Rattle.demo_model.proofs.Marks.{shortest}
 use Rattle.demo_model.proofs.Claim as DemoProof
 use Rattle.vobsub_model.specs.declared.Shown.{Shown}
 use Rattle.vobsub_model.specs.declared.CanvasAnswer.{CanvasAnswer}
-use Rattle.vobsub_model.specs.declared.CanvasAnswer.TheVariants as CanvasAnswer
 use Rattle.vobsub_model.specs.Call.{Lent, listed_in}
 use Rattle.vobsub_model.specs.Answers.{CuePainted}
 use Rattle.vobsub_model.specs.Claim.{Gives, Room, Exactly, Undisturbed}

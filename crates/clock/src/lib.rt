@@ -1,5 +1,7 @@
 // Times of a title: delays of a unit count ticks, times of an index text count microseconds, and one conversion joins
 // the two (docs/FORMAT.md, 6.7).
+#![tactic(auto)]
+
 ghost use Rattle.std.specs.Prelude.{◌≡◌, pos, ◌+ℤ◌};
 ghost use Rattle.grammar.specs.Times.{in_micros};
 ghost use Rattle.clock_model.specs.Sums.{checked};

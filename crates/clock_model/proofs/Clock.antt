@@ -22,7 +22,6 @@ use Rattle.clock_model.specs.Answers.{micros, delayed, times_of, times_answer}
 use Rattle.clock_model.specs.declared.Num.TheVariants.{Over, Is}
 use Rattle.clock_model.specs.declared.Times.{Times}
 use Rattle.clock_model.specs.declared.TimesAnswer.{TimesAnswer}
-use Rattle.clock_model.specs.declared.TimesAnswer.TheVariants as TimesAnswer
 use Rattle.clock_model.proofs.Sums.{from-checked}
 
 -- ---- Times that stay

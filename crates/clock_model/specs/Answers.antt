@@ -9,7 +9,6 @@ use Rattle.clock_model.specs.declared.Ticks.{Ticks}
 use Rattle.clock_model.specs.declared.Micros.{Micros}
 use Rattle.clock_model.specs.declared.Times.{Times}
 use Rattle.clock_model.specs.declared.TimesAnswer.{TimesAnswer}
-use Rattle.clock_model.specs.declared.TimesAnswer.TheVariants as TimesAnswer
 
 abbrev pub ticks : ℕ → Ticks
 ticks d = record { 0 = d }

@@ -1,4 +1,6 @@
 // The code at a place of a field, read nibble by nibble through a reader, and what it paints of a row (docs/FORMAT.md, section 5).
+#![tactic(auto)]
+
 ghost use Rattle.std.specs.Prelude.{◌≡◌, ℕ, length};
 ghost use Rattle.grammar.specs.Rows.{code, paints};
 ghost use Rattle.rle_model.specs.Codes.{code_at};

@@ -1,5 +1,7 @@
 // The control blocks of a unit: a chain of blocks whose commands say when, where and in which colours its picture is shown
 // (docs/FORMAT.md, section 3). One record holds what they say.
+#![tactic(auto)]
+
 ghost use Rattle.std.specs.Prelude.{◌≡◌, ℕ, ◌≤◌, ◌<◌, ◌+◌, ◌*◌, ◌/◌, ◌%◌, ◌^◌, length, List};
 ghost use Rattle.grammar.specs.Bytes.{byte, word, nibbles};
 ghost use Rattle.std.proofs.Math.Option.{some};

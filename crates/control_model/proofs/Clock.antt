@@ -10,7 +10,6 @@ use Rattle.clock_model.specs.Clock.{told_stay}
 use Rattle.clock_model.specs.Answers.{delayed, times_of, times_answer}
 use Rattle.clock_model.specs.declared.Times.{Times}
 use Rattle.clock_model.specs.declared.TimesAnswer.{TimesAnswer}
-use Rattle.clock_model.specs.declared.TimesAnswer.TheVariants as TimesAnswer
 use Rattle.clock_model.proofs.Clock.{delayed-is, times_are, times-leave}
 use Rattle.rle_model.specs.declared.Counts.{Counts}
 use Rattle.control_model.specs.Answers.{spu_of}

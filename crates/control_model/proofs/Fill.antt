@@ -20,7 +20,6 @@ use Rattle.control_model.specs.Fold.{untold, tell, tell_block, tell_chain}
 use Rattle.bands_model.specs.Bands.{bands_of}
 use Rattle.bands_model.specs.Answers.{count_of, ListRead}
 use Rattle.bands_model.specs.declared.BandAnswer.{BandAnswer}
-use Rattle.bands_model.specs.declared.BandAnswer.TheVariants as BandAnswer
 use Rattle.bands_model.proofs.Loops.{words-join}
 use Rattle.control_model.specs.Listed.{bands_at}
 use Rattle.control_model.specs.Chain.{plain_at, change_at, order_at, command, command_at, commands_at, block, block_at, chain_next, blocks_at, chain_at, has_area, control_at}

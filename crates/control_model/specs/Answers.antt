@@ -9,9 +9,7 @@ use Rattle.control_model.specs.Fold.{untold, tell, tell_block, tell_chain}
 use Rattle.control_model.specs.Chain.{control_at}
 use Rattle.control_model.specs.declared.Spu.{Spu}
 use Rattle.control_model.specs.declared.CommandAnswer.{CommandAnswer}
-use Rattle.control_model.specs.declared.CommandAnswer.TheVariants as CommandAnswer
 use Rattle.control_model.specs.declared.ControlAnswer.{ControlAnswer}
-use Rattle.control_model.specs.declared.ControlAnswer.TheVariants as ControlAnswer
 use Rattle.rle_model.specs.declared.Counts.{Counts}
 use Rattle.rle_model.specs.Answers.{nothing}
 

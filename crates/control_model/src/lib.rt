@@ -1,11 +1,12 @@
 // Control blocks without their functions: what they tell, the answers, the definitions and their laws, and the words of
 // all bands of a unit.
+#![tactic(auto)]
 
 use clock_model::Ticks;
 
 // What the commands of a unit tell and what its rows count: the record of a unit, by the names of the original, but for
 // the words of its bands, which do not go from command to command.
-#[derive(Drop)]
+#[derive(Clone, Copy)]
 pub struct Spu {
     // The wide numbers come first and the flags last, so that no byte is unused: unused ones would be carried from
     // command to command too.
@@ -39,7 +40,7 @@ pub struct Spu {
 }
 
 // What a command tells.
-#[derive(Drop)]
+#[derive(Clone, Copy)]
 pub enum CommandAnswer {
     // The place after it, and the record with what it tells.
     Next { at: usize, spu: Spu },
@@ -48,7 +49,7 @@ pub enum CommandAnswer {
 }
 
 // The bands of a unit, kept in an array.
-#[derive(Drop)]
+#[derive(Clone, Copy)]
 pub struct UnitBands {
     // The number of the refusal; 0 where there is none.
     pub refused: u8,
@@ -57,7 +58,7 @@ pub struct UnitBands {
 }
 
 // What control blocks tell.
-#[derive(Drop)]
+#[derive(Clone, Copy)]
 pub enum ControlAnswer {
     Tells(Spu),
     // The number of the refusal.
@@ -65,7 +66,7 @@ pub enum ControlAnswer {
 }
 
 // Where reading commands and storing words stand.
-#[derive(Drop)]
+#[derive(Clone, Copy)]
 pub struct Place {
     pub at: usize,
     pub to: usize,

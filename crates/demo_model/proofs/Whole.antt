@@ -18,7 +18,6 @@ use Rattle.demo_model.specs.Answers.{half, Inked, Sound, EndsOf, FieldsWritten, 
 use Rattle.demo_model.specs.declared.NibbleWriter.{NibbleWriter}
 use Rattle.demo_model.specs.declared.Ends.{Ends}
 use Rattle.demo_model.specs.declared.DemoAnswer.{DemoAnswer}
-use Rattle.demo_model.specs.declared.DemoAnswer.TheVariants as DemoAnswer
 use Rattle.demo_model.proofs.Marks.{fill-closes}
 use Rattle.demo_model.proofs.Unit.{top-even, fields-length}
 use Rattle.demo_model.proofs.Ink.{inked_as}

@@ -7,7 +7,6 @@ use Rattle.demo_model.specs.Unit.{Four, top_nibbles, bottom_nibbles, demo_at}
 use Rattle.demo_model.specs.declared.NibbleWriter.{NibbleWriter}
 use Rattle.demo_model.specs.declared.Ends.{Ends}
 use Rattle.demo_model.specs.declared.DemoAnswer.{DemoAnswer}
-use Rattle.demo_model.specs.declared.DemoAnswer.TheVariants as DemoAnswer
 
 -- the last of an odd number of nibbles, else 0
 unfoldable pub half : List ℕ → ℕ

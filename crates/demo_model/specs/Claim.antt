@@ -13,7 +13,6 @@ use Rattle.spu_model.specs.declared.Record.{Record}
 use Rattle.demo_model.specs.Codes.{last_marks}
 use Rattle.demo_model.specs.Unit.{top_nibbles}
 use Rattle.demo_model.specs.declared.DemoAnswer.{DemoAnswer}
-use Rattle.demo_model.specs.declared.DemoAnswer.TheVariants as DemoAnswer
 use Rattle.spu_model.specs.Unit.{counts_of}
 
 -- what the commands of the control block tell, of a picture whose bottom field is at b

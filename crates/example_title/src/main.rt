@@ -1,27 +1,29 @@
 // Writes the file of the example title: three pictures as units, one after the other. Its output is the file title.sub of crates/list.
-use demo_model::DemoAnswer;
-use libc::STDOUT_FILENO;
+#![tactic(auto)]
 
-fn write_front(out: &[u8], n: usize) {
+use demo_model::DemoAnswer;
+
+fn write_front(rt: &impl Print, out: &[u8], n: usize) {
     if n <= out.len() {
-        io::write_all(STDOUT_FILENO, &out[..n]);
+        let _ = rt.write_all(&out[..n]);
     }
 }
 
-fn unit(width: usize, height: usize, picture: &[u8]) {
+fn unit(rt: &impl Print, width: usize, height: usize, picture: &[u8]) {
     let mut out = [0u8; 256];
     match demo::build_demo_spu(width, height, picture, &mut out) {
         DemoAnswer::Wrote(n) => {
-            write_front(&out, n);
+            write_front(rt, &out, n);
         }
         DemoAnswer::Refused(_) => {}
     }
 }
 
-fn main() {
-    unit(2, 2, &[1, 1, 2, 3]);
+fn main(rt: HostRuntime) {
+    unit(&rt, 2, 2, &[1, 1, 2, 3]);
     // a frame
     unit(
+        &rt,
         8,
         5,
         &[
@@ -31,6 +33,7 @@ fn main() {
     );
     // a slope
     unit(
+        &rt,
         6,
         3,
         &[3, 0, 0, 0, 0, 0, 3, 3, 3, 0, 0, 0, 3, 3, 3, 3, 3, 0],

@@ -1,4 +1,6 @@
 // Both fields of a picture: rows 0, 2, .. of its index map from the one and rows 1, 3, .. from the other (docs/FORMAT.md, 3.8 and 5.7).
+#![tactic(auto)]
+
 ghost use Rattle.std.specs.Prelude.{◌≡◌, ℕ, ◌+◌, ◌*◌, ◌<◌, ◌≤◌, ◌^◌, length};
 ghost use Rattle.std.proofs.Math.Seq.{slice};
 ghost use Rattle.outcome.specs.Outcome.{ok};
@@ -11,7 +13,7 @@ use rle::{decode_sized, fill_measured, fill_run, measure_field, measure_kept, pl
 use rle_model::{Counts, FieldAnswer};
 
 // Bytes of a unit: from one place up to another.
-#[derive(Drop)]
+#[derive(Clone, Copy)]
 pub struct Span {
     pub from: usize,
     pub to: usize,

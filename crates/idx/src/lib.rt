@@ -1,4 +1,6 @@
 // The index text as a whole (docs/FORMAT.md, section 1): size, palette and cue table, or one cue of it.
+#![tactic(auto)]
+
 ghost use Rattle.std.specs.Prelude.{◌≡◌, [], ℕ, ◌<◌, ◌+◌, ◌^◌, min, pos, ◌-ℤ◌, length};
 ghost use Rattle.std.proofs.Math.Option.{some};
 ghost use Rattle.idx_model.specs.Claim.{IdxSays, CueSays};

@@ -13,7 +13,7 @@ use mir.Syntax.{w64}
 use mir.Val.{SFits, to_z, of_z}
 use mir.Facts.{to_z-of_z}
 use borrow.Author.Tests.{le-leb}
-use Rattle.outcome.specs.Outcome.{Res, ok, refuse, and_then, check, bad_time, long_time}
+use Rattle.outcome.specs.Outcome.{Res, ok, refuse, check, bad_time, long_time}
 use Rattle.grammar.specs.Index.{field, minutes, seconds, start_of}
 use Rattle.grammar.specs.IndexNumbers.{Valued, Signed, Unsigned}
 use Rattle.grammar.specs.IndexParts.{colon}

@@ -1,7 +1,8 @@
 // One line of the index text without its functions: what it says, the answers and their laws.
+#![tactic(auto)]
 
 // What a trimmed line says.
-#[derive(Drop)]
+#[derive(Clone, Copy)]
 pub enum Line {
     // The number of the refusal.
     Refused(u8),
@@ -15,7 +16,7 @@ pub enum Line {
 }
 
 // The parts of a timestamp that count: where the time and the position start and end, trimmed.
-#[derive(Drop)]
+#[derive(Clone, Copy)]
 pub struct Found {
     pub has_time: bool,
     pub time_from: usize,
@@ -26,20 +27,20 @@ pub struct Found {
 }
 
 // A number without a sign, and the place after it.
-#[derive(Drop)]
+#[derive(Clone, Copy)]
 pub enum Counted {
     Bad,
     Is { value: u64, end: usize },
 }
 
 // A field of a time, and where the next one starts.
-#[derive(Drop)]
+#[derive(Clone, Copy)]
 pub enum Field {
     Bad,
     Is { value: i64, next: usize },
 }
 
-#[derive(Drop)]
+#[derive(Clone, Copy)]
 pub enum Time {
     Bad,
     // A step of the sum leaves signed 64 bits.

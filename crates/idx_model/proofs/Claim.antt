@@ -10,7 +10,7 @@ use lib.Seq.{sets}
 use lib.IntN.{ℤ}
 use Rattle.outcome.specs.Outcome.{Res, ok, refuse, listed_by, no_cue}
 use Rattle.outcome.proofs.Laws.{le_or_lt}
-use Rattle.grammar.specs.Index.{ListedText, palette}
+use Rattle.grammar.specs.Index.{ListedText}
 use Rattle.grammar.specs.IndexCues.{Cue, cues_of, cue_at, palette_of, has_palette, duration_of}
 use Rattle.idx_model.specs.Text.{idx_of}
 use Rattle.idx_model.specs.Answers.{starts_of, positions_of, idx_with, idx_answer, IdxRead, pick_of, cue_answer}

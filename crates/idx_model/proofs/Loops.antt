@@ -18,7 +18,7 @@ use Rattle.outcome.proofs.Laws.{ok-injective, refuse-injective, ok-not-refuse, l
 use Rattle.grammar.specs.Parts.{Part}
 use Rattle.grammar.specs.IndexParts.{line_end, unlike}
 use Rattle.grammar.specs.Index.{Said, size, palette, timestamp, start_of}
-use Rattle.grammar.specs.IndexCues.{Cue, palette_from, colours_of}
+use Rattle.grammar.specs.IndexCues.{palette_from, colours_of}
 use Rattle.idx_numbers_model.specs.Parts.{part, front, all, trim, trimmed, split}
 use Rattle.idx_numbers_model.proofs.Grammar.{never}
 use Rattle.idx_numbers_model.proofs.Steps.{last-part, next-part, part_in}

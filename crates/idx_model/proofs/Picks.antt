@@ -17,7 +17,7 @@ use Rattle.grammar.specs.IndexParts.{line_end}
 use Rattle.grammar.specs.Index.{Said, size, palette, timestamp, ListedText, of_lines, no_bytes}
 use Rattle.grammar.specs.IndexCues.{Cue, cues_of_lines, cues_of, cue_at, palette_of, some_token, lines_have_palette, has_palette, size_from, display_size, duration_of, clip}
 use Rattle.grammar.specs.IndexCues as cues
-use Rattle.idx_numbers_model.specs.Parts.{part, push, all, trim, split}
+use Rattle.idx_numbers_model.specs.Parts.{part, push, trim, split}
 use Rattle.idx_numbers_model.proofs.Grammar.{never}
 use Rattle.idx_lines_model.specs.Lines.{line_of}
 use Rattle.clock_model.specs.Answers.{micros}
@@ -46,19 +46,19 @@ pick_at f (x ∷ cs) n (suc m) d c e =
     rw (ne_eqb n (n + suc m) (λ q. omega arith), z) (pick_at f cs (n + 1) m d c e)
 
 -- ---- the fields of what was seen
-see_cues : (cue : ℕ) (s : Seen) (ls : List Said) → (see_all cue s ls).cues ≡ s.cues + length (cues_of_lines ls)
+see_cues : (cue : ℕ) (ls : List Said) (s : Seen) → (see_all cue s ls).cues ≡ s.cues + length (cues_of_lines ls)
 unfolding see_all cues_of_lines
-see_cues cue s [] = sym (add-zero s.cues)
-see_cues cue s (size l w h ∷ ls) = see_cues cue _ ls
-see_cues cue s (palette l ts ∷ ls) = see_cues cue _ ls
-see_cues cue s (timestamp l ps fs v ∷ ls) = see_cues cue _ ls ∙ omega arith
+see_cues cue [] s = sym (add-zero s.cues)
+see_cues cue (size l w h ∷ ls) s = see_cues cue ls _
+see_cues cue (palette l ts ∷ ls) s = see_cues cue ls _
+see_cues cue (timestamp l ps fs v ∷ ls) s = see_cues cue ls _ ∙ omega arith
 
-see_size_lem : (cue : ℕ) (s : Seen) (ls : List Said) → cues.size_is (see_all cue s ls).width (see_all cue s ls).height ≡ size_from (cues.size_is s.width s.height) ls
+see_size_lem : (cue : ℕ) (ls : List Said) (s : Seen) → cues.size_is (see_all cue s ls).width (see_all cue s ls).height ≡ size_from (cues.size_is s.width s.height) ls
 unfolding see_all size_from
-see_size_lem cue s [] = refl
-see_size_lem cue s (size l w h ∷ ls) = see_size_lem cue _ ls
-see_size_lem cue s (palette l ts ∷ ls) = see_size_lem cue _ ls
-see_size_lem cue s (timestamp l ps fs v ∷ ls) = see_size_lem cue _ ls
+see_size_lem cue [] s = refl
+see_size_lem cue (size l w h ∷ ls) s = see_size_lem cue ls _
+see_size_lem cue (palette l ts ∷ ls) s = see_size_lem cue ls _
+see_size_lem cue (timestamp l ps fs v ∷ ls) s = see_size_lem cue ls _
 
 or_swap : (a b c : Bool) → (a || b) || c ≡ b || (a || c)
 or_swap true true c = refl
@@ -70,34 +70,34 @@ or_none_lem : (a : Bool) → a ≡ a || false
 or_none_lem true = refl
 or_none_lem false = refl
 
-see_palette_lem : (cue : ℕ) (s : Seen) (ls : List Said)
+see_palette_lem : (cue : ℕ) (ls : List Said) (s : Seen)
     → (see_all cue s ls).has_palette ≡ s.has_palette || lines_have_palette ls
 unfolding see_all lines_have_palette
-see_palette_lem cue s [] = or_none_lem s.has_palette
-see_palette_lem cue s (size l w h ∷ ls) = see_palette_lem cue _ ls
-see_palette_lem cue s (palette l ts ∷ ls) = see_palette_lem cue _ ls ∙ or_swap (some_token ts) s.has_palette (lines_have_palette ls)
-see_palette_lem cue s (timestamp l ps fs v ∷ ls) = see_palette_lem cue _ ls
+see_palette_lem cue [] s = or_none_lem s.has_palette
+see_palette_lem cue (size l w h ∷ ls) s = see_palette_lem cue ls _
+see_palette_lem cue (palette l ts ∷ ls) s = see_palette_lem cue ls _ ∙ or_swap (some_token ts) s.has_palette (lines_have_palette ls)
+see_palette_lem cue (timestamp l ps fs v ∷ ls) s = see_palette_lem cue ls _
 
-see-start : (cue : ℕ) (s : Seen) (ls : List Said) → (see_all cue s ls).start ≡ pick_from (λ c. c.start) s.cues cue s.start (cues_of_lines ls)
+see-start : (cue : ℕ) (ls : List Said) (s : Seen) → (see_all cue s ls).start ≡ pick_from (λ c. c.start) s.cues cue s.start (cues_of_lines ls)
 unfolding see_all cues_of_lines pick_from
-see-start cue s [] = refl
-see-start cue s (size l w h ∷ ls) = see-start cue _ ls
-see-start cue s (palette l ts ∷ ls) = see-start cue _ ls
-see-start cue s (timestamp l ps fs v ∷ ls) = see-start cue _ ls
+see-start cue [] s = refl
+see-start cue (size l w h ∷ ls) s = see-start cue ls _
+see-start cue (palette l ts ∷ ls) s = see-start cue ls _
+see-start cue (timestamp l ps fs v ∷ ls) s = see-start cue ls _
 
-see-position : (cue : ℕ) (s : Seen) (ls : List Said) → (see_all cue s ls).position ≡ pick_from (λ c. c.position) s.cues cue s.position (cues_of_lines ls)
+see-position : (cue : ℕ) (ls : List Said) (s : Seen) → (see_all cue s ls).position ≡ pick_from (λ c. c.position) s.cues cue s.position (cues_of_lines ls)
 unfolding see_all cues_of_lines pick_from
-see-position cue s [] = refl
-see-position cue s (size l w h ∷ ls) = see-position cue _ ls
-see-position cue s (palette l ts ∷ ls) = see-position cue _ ls
-see-position cue s (timestamp l ps fs v ∷ ls) = see-position cue _ ls
+see-position cue [] s = refl
+see-position cue (size l w h ∷ ls) s = see-position cue ls _
+see-position cue (palette l ts ∷ ls) s = see-position cue ls _
+see-position cue (timestamp l ps fs v ∷ ls) s = see-position cue ls _
 
-see-next : (cue : ℕ) (s : Seen) (ls : List Said) → (see_all cue s ls).next ≡ pick_from (λ c. c.start) s.cues (cue + 1) s.next (cues_of_lines ls)
+see-next : (cue : ℕ) (ls : List Said) (s : Seen) → (see_all cue s ls).next ≡ pick_from (λ c. c.start) s.cues (cue + 1) s.next (cues_of_lines ls)
 unfolding see_all cues_of_lines pick_from
-see-next cue s [] = refl
-see-next cue s (size l w h ∷ ls) = see-next cue _ ls
-see-next cue s (palette l ts ∷ ls) = see-next cue _ ls
-see-next cue s (timestamp l ps fs v ∷ ls) = see-next cue _ ls
+see-next cue [] s = refl
+see-next cue (size l w h ∷ ls) s = see-next cue ls _
+see-next cue (palette l ts ∷ ls) s = see-next cue ls _
+see-next cue (timestamp l ps fs v ∷ ls) s = see-next cue ls _
 
 -- ---- cues by number
 pub cue-in : (cs : List Cue) (n : ℕ) → n < length cs → (c : Cue) × (cue_at cs n ≡ some c)
@@ -136,30 +136,30 @@ either_way true x = refl
 either_way false x = refl
 
 seen_cues : (cue : ℕ) (t : ListedText) → (seen_of cue t).cues ≡ length (cues_of t)
-seen_cues cue (of_lines ls) = see_cues cue nothing_seen ls ∙ zero-add (length (cues_of_lines ls))
+seen_cues cue (of_lines ls) = see_cues cue ls nothing_seen ∙ zero-add (length (cues_of_lines ls))
 seen_cues cue (no_bytes p) = refl
 
 seen-palette : (cue : ℕ) (t : ListedText) → (seen_of cue t).has_palette ≡ has_palette t
-seen-palette cue (of_lines ls) = see_palette_lem cue nothing_seen ls
+seen-palette cue (of_lines ls) = see_palette_lem cue ls nothing_seen
 seen-palette cue (no_bytes p) = refl
 
 seen_size : (cue : ℕ) (t : ListedText) → cues.size_is (seen_of cue t).width (seen_of cue t).height ≡ display_size t
-seen_size cue (of_lines ls) = see_size_lem cue nothing_seen ls
+seen_size cue (of_lines ls) = see_size_lem cue ls nothing_seen
 seen_size cue (no_bytes p) = refl
 
 seen_start : (cue : ℕ) (t : ListedText) → (seen_of cue t).start ≡ pick_from (λ c. c.start) 0 cue (pos 0) (cues_of t)
 unfolding pick_from
-seen_start cue (of_lines ls) = see-start cue nothing_seen ls
+seen_start cue (of_lines ls) = see-start cue ls nothing_seen
 seen_start cue (no_bytes p) = either_way (eqb 0 cue) (pos 0)
 
 seen-position : (cue : ℕ) (t : ListedText) → (seen_of cue t).position ≡ pick_from (λ c. c.position) 0 cue 0 (cues_of t)
 unfolding pick_from
-seen-position cue (of_lines ls) = see-position cue nothing_seen ls
+seen-position cue (of_lines ls) = see-position cue ls nothing_seen
 seen-position cue (no_bytes p) = either_way (eqb 0 cue) 0
 
 seen_next : (cue : ℕ) (t : ListedText) → (seen_of cue t).next ≡ pick_from (λ c. c.start) 0 (cue + 1) (pos 0) (cues_of t)
 unfolding pick_from
-seen_next cue (of_lines ls) = see-next cue nothing_seen ls
+seen_next cue (of_lines ls) = see-next cue ls nothing_seen
 seen_next cue (no_bytes p) = either_way (eqb 0 (cue + 1)) (pos 0)
 
 -- ---- the answers

@@ -1,9 +1,10 @@
 // The index text without its functions: its answers, its definitions, their laws and the claim.
+#![tactic(auto)]
 
 use clock_model::Micros;
 
 // What was seen of a text, on the way to one of its cues.
-#[derive(Drop)]
+#[derive(Clone, Copy)]
 pub struct Seen {
     // How many cues there are.
     pub cues: usize,
@@ -16,7 +17,7 @@ pub struct Seen {
     pub next: i64,
 }
 
-#[derive(Drop)]
+#[derive(Clone, Copy)]
 pub enum Measured {
     // The number of the refusal.
     Refused(u8),
@@ -24,7 +25,7 @@ pub enum Measured {
 }
 
 // Size, palette and number of cues of a text. Beside a refusal all else is 0.
-#[derive(Drop)]
+#[derive(Clone, Copy)]
 pub struct IdxAnswer {
     // The number of the refusal; 0 where there is none.
     pub refused: u8,
@@ -37,7 +38,7 @@ pub struct IdxAnswer {
 }
 
 // One cue of a text. Beside a refusal all else is 0.
-#[derive(Drop)]
+#[derive(Clone, Copy)]
 pub struct CueAnswer {
     // The number of the refusal; 0 where there is none.
     pub refused: u8,

@@ -1,5 +1,7 @@
 // Parts of the index text and the numbers in them (docs/FORMAT.md, rules 1.1 to 1.3, 1.7 and 1.8). Functions take a part of the text and
 // hand back a part of it, a length or a number.
+#![tactic(auto)]
+
 ghost use Rattle.std.specs.Prelude.{◌≡◌, not, List, ℕ, ◌≤◌, ◌<◌, ◌+◌, ◌*◌, length, take, drop, pos, ◌*ℤ◌};
 ghost use Rattle.grammar.specs.IndexParts;
 ghost use Rattle.grammar.specs.IndexNumbers;

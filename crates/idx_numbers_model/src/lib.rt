@@ -1,14 +1,15 @@
 // Parts, numbers and times of the index text without their functions, and their laws.
+#![tactic(auto)]
 
 // What a byte may be in a palette line: between tokens, or in one.
-#[derive(Drop)]
+#[derive(Clone, Copy)]
 pub enum Kind {
     Parting,
     Token,
 }
 
 // The digits at the front of a part.
-#[derive(Drop)]
+#[derive(Clone, Copy)]
 pub enum Run {
     // Their number is above the bound.
     Over,
@@ -16,7 +17,7 @@ pub enum Run {
     Is { count: usize, value: u64 },
 }
 
-#[derive(Drop)]
+#[derive(Clone, Copy)]
 pub enum Number {
     Bad,
     Is(u64),

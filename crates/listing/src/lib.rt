@@ -1,4 +1,6 @@
 // The lines of the list program, each put into a lent line (docs/FORMAT.md, section 8).
+#![tactic(auto)]
+
 ghost use Rattle.std.specs.Prelude.{◌≡◌, ◌+◌, ◌≤◌, ◌<◌, length};
 ghost use Rattle.std.proofs.lemmas.List.Edits.{sets};
 ghost use Rattle.grammar.specs.Packets.{stream_id};

@@ -22,7 +22,6 @@ use Rattle.clock_model.specs.Clock.{unit_in_time}
 use Rattle.clock_model.specs.Answers.{delayed, times_answer}
 use Rattle.clock_model.specs.declared.Times.{Times}
 use Rattle.clock_model.specs.declared.TimesAnswer.{TimesAnswer}
-use Rattle.clock_model.specs.declared.TimesAnswer.TheVariants as TimesAnswer
 use Rattle.control_model.specs.Few.{few_at}
 use Rattle.control_model.proofs.Few.{few_iff}
 use Rattle.control_model.proofs.Clock.{told_stay_lem, told-leave}
@@ -32,13 +31,11 @@ use Rattle.ps_model.specs.Packets.{form_at}
 use Rattle.ps_model.specs.Unit as PsUnit
 use Rattle.ps_model.specs.Answers.{form_stored, unit_given, unit_stored, unit_part, Extracted}
 use Rattle.ps_model.specs.declared.UnitAnswer.{UnitAnswer}
-use Rattle.ps_model.specs.declared.UnitAnswer.TheVariants as UnitAnswer
 use Rattle.ps_model.proofs.Grammar.{form_iff}
 use Rattle.ps_model.proofs.Claim.{stream_sound, unit-there}
 use Rattle.spu_model.specs.Unit.{rows_at, listed_unit, unit_at, counts_of}
 use Rattle.spu_model.specs.Answers.{spu_answer}
 use Rattle.spu_model.specs.declared.SpuAnswer.{SpuAnswer}
-use Rattle.spu_model.specs.declared.SpuAnswer.TheVariants as SpuAnswer
 use Rattle.spu_model.proofs.Loops.{known}
 use Rattle.listing_model.specs.Lines.{shown_line, refused_line}
 use Rattle.listing_model.specs.Title.{list_stream, shown_at, unit_for, timed_for, line_of}

@@ -1,7 +1,8 @@
 // The lines of a title without their functions: what is listed, the bytes of its lines, their laws and the claim.
+#![tactic(auto)]
 
 // A title's first line.
-#[derive(Drop)]
+#[derive(Clone, Copy)]
 pub struct Head {
     // How long the line is.
     pub size: usize,

@@ -1,4 +1,6 @@
 // What stored colour bands give at a place of the display (docs/FORMAT.md, 4.6), and how many they are.
+#![tactic(auto)]
+
 ghost use Rattle.std.specs.Prelude.{◌≡◌, ◌≤◌, ◌-◌, ◌+◌, ◌*◌, length, get_or, drop, leb, ◌&&◌};
 ghost use Rattle.bands_model.specs.Look.{told, pick_entry, entries_look, band_look, look_words, spans_line};
 ghost use Rattle.bands_model.specs.Count.{bands_held};

@@ -1,12 +1,14 @@
 // A reader of a field's nibbles: the field and a half-byte count, as the original has it (docs/FORMAT.md, section 5).
-// Each function over the reader is thin over one that takes the field and the count, which is covered; it is proved by a walk of its MIR.
+// Each function over the reader is thin over one that takes the field and the count.
+#![tactic(auto)]
+
 ghost use Rattle.std.specs.Prelude.{◌≡◌};
 ghost use Rattle.rle_model.specs.Nibbles.{nibble_at, nibble_answer, past_nibble, on_byte};
 
 use outcome::FIELD_RAN_OUT;
 use rle_model::Nibble;
 
-#[derive(Drop)]
+#[derive(Clone, Copy)]
 pub struct NibbleReader<'a> {
     pub buf: &'a [u8],
     // How many half bytes were read.
@@ -86,7 +88,7 @@ impl<'a> NibbleReader<'a> {
     }
 }
 
-// The nibble at half byte pos, read through a reader. A caller needs no walk: its parameters are plain.
+// The nibble at half byte pos, read through a reader.
 // Ruled out: the first nibble whatever pos is; the nibble after pos.
 pub fn read_through(field: &[u8], pos: usize) -> Nibble
     ensures { result ≡ nibble_answer (nibble_at field.now pos) }

@@ -10,48 +10,55 @@
 // where k is not 0, each of the first k pictures, whose bytes are the digits of its number to base 4. converted: ticks.
 // times_of: the start, as 0 and the number, or as 1 and how far it is above -2^63; then 1 or 0 and a delay for the start
 // command, and the same for the stop command.
+#![tactic(auto)]
+
 use bands_model::{BandAnswer, LookAnswer};
 use clock_model::{Micros, Num, Ticks, TimesAnswer};
 use control_model::Spu;
 use demo_model::DemoAnswer;
 use idx_numbers::starts;
-use libc::{STDIN_FILENO, STDOUT_FILENO};
 use ps_model::UnitAnswer;
 use rle_model::{CodeAnswer, Cursor, Nibble};
 use spu_model::SpuAnswer;
+use std::io::Read;
 
 const FOUND: u8 = 238;
 
-fn say(s: &[u8]) {
-    io::write_all(STDOUT_FILENO, s);
+// Writes s. What a write that fails leaves unwritten stays so.
+fn say(rt: &impl Print, s: &[u8]) {
+    let _ = rt.write_all(s);
 }
 
-fn digit(n: usize) {
+fn decimal(rt: &impl Print, n: u64) {
+    let _ = rt.print(n);
+}
+
+fn digit(rt: &impl Print, n: usize) {
     let d = (n % 16) as u8;
     if d < 10 {
-        say(&[48 + d]);
+        say(rt, &[48 + d]);
     } else {
-        say(&[55 + d]);
+        say(rt, &[55 + d]);
     }
 }
 
-fn hex(n: usize) {
-    digit(n / 16);
-    digit(n);
+fn hex(rt: &impl Print, n: usize) {
+    digit(rt, n / 16);
+    digit(rt, n);
 }
 
-fn mark(c: u8, n: usize) {
+fn mark(rt: &impl Print, c: u8, n: usize) {
     let kind = c / 16;
     if kind == 4 {
-        io::print_decimal(STDOUT_FILENO, n as u64);
+        decimal(rt, n as u64);
         return;
     }
     if kind == 5 {
-        hex(n / 256);
-        hex(n);
+        hex(rt, n / 256);
+        hex(rt, n);
         return;
     }
-    say(&[c]);
+    say(rt, &[c]);
 }
 
 fn of_byte(b: u8) -> usize {
@@ -60,30 +67,30 @@ fn of_byte(b: u8) -> usize {
 
 // Writes a form: for bytes 40 to 4F (`@`, `A` to `O`) number 0 to 15 in decimal, for 50 to 5F the same in hexadecimal,
 // and others as they are.
-fn form(s: &[u8], numbers: &[usize; 17]) {
+fn form(rt: &impl Print, s: &[u8], numbers: &[usize; 17]) {
     let mut i = 0;
     while i < s.len() {
         let c = s[i];
-        mark(c, numbers[of_byte(c) % 16]);
+        mark(rt, c, numbers[of_byte(c) % 16]);
         i += 1;
     }
 }
 
-fn said(s: &[u8], n: usize) {
-    form(s, &[n; 17]);
+fn said(rt: &impl Print, s: &[u8], n: usize) {
+    form(rt, s, &[n; 17]);
 }
 
-fn pair(s: &[u8], a: usize, b: usize) {
+fn pair(rt: &impl Print, s: &[u8], a: usize, b: usize) {
     let mut numbers = [a; 17];
     numbers[1] = b;
-    form(s, &numbers);
+    form(rt, s, &numbers);
 }
 
-fn refused(n: u8) {
-    said(b": refused @", n as usize);
+fn refused(rt: &impl Print, n: u8) {
+    said(rt, b": refused @", n as usize);
 }
 
-fn code(field: &[u8], pos: usize, left: usize) {
+fn code(rt: &impl Print, field: &[u8], pos: usize, left: usize) {
     match codes::read_code(field, Cursor { pos }, left) {
         CodeAnswer::Got {
             size,
@@ -91,50 +98,51 @@ fn code(field: &[u8], pos: usize, left: usize) {
             clipped,
             next,
         } => {
-            pair(b": nibbles @ value A", size, value);
-            pair(b" clipped @ next A", clipped as usize, next.pos);
+            pair(rt, b": nibbles @ value A", size, value);
+            pair(rt, b" clipped @ next A", clipped as usize, next.pos);
         }
         CodeAnswer::Refused(n) => {
-            refused(n);
+            refused(rt, n);
         }
     }
 }
 
-fn nibble(field: &[u8], pos: usize) {
+fn nibble(rt: &impl Print, field: &[u8], pos: usize) {
     match nibbles::read_through(field, pos) {
         Nibble::Is(n) => {
-            said(b": nibble @", n);
+            said(rt, b": nibble @", n);
         }
         Nibble::Refused(n) => {
-            refused(n);
+            refused(rt, n);
         }
     }
 }
 
-fn measured(unit: &[u8]) {
+fn measured(rt: &impl Print, unit: &[u8]) {
     match spu::measure_spu(unit) {
         SpuAnswer::Shows(s) => {
             let numbers = vobsub_numbers::numbers_of(s);
             form(
+                rt,
                 b": area @ A B C, selectors T, alphas U, start F G, stop H I, forced J, offsets K L, change M, band words N, codes O",
                 &numbers,
             );
-            said(b", clipped @", numbers[16]);
+            said(rt, b", clipped @", numbers[16]);
         }
         SpuAnswer::Refused(n) => {
-            refused(n);
+            refused(rt, n);
         }
     }
 }
 
-fn signed(z: i64) {
+fn signed(rt: &impl Print, z: i64) {
     if z < 0 {
-        say(b" -");
+        say(rt, b" -");
         let n = (-1 - z) as u64;
-        io::print_decimal(STDOUT_FILENO, n + 1);
+        decimal(rt, n + 1);
     } else {
         let m = z as usize;
-        said(b" @", m);
+        said(rt, b" @", m);
     }
 }
 
@@ -150,7 +158,7 @@ fn start_of(above_least: usize, n: usize) -> Num {
     clock::plus(-9223372036854775808, z)
 }
 
-fn times(line: &[u8], above_least: usize, n: usize) {
+fn times(rt: &impl Print, line: &[u8], above_least: usize, n: usize) {
     let Num::Is(z) = start_of(above_least, n) else {
         return;
     };
@@ -161,38 +169,39 @@ fn times(line: &[u8], above_least: usize, n: usize) {
     let stop_delay = Ticks((table::given(line, 5) % 65536) as u16);
     match clock::times_of(start, started, start_delay, stopped, stop_delay) {
         TimesAnswer::Are(t) => {
-            say(b": show");
-            signed(t.show.0);
-            said(b", hides @, hide", t.hides as usize);
-            signed(t.hide.0);
+            say(rt, b": show");
+            signed(rt, t.show.0);
+            said(rt, b", hides @, hide", t.hides as usize);
+            signed(rt, t.hide.0);
         }
         TimesAnswer::Refused(refusal) => {
-            refused(refusal);
+            refused(rt, refusal);
         }
     }
 }
 
 // What the first n words give at column x of line y.
-fn look(words: &[u16], n: usize, x: u16, y: u16) {
+fn look(rt: &impl Print, words: &[u16], n: usize, x: u16, y: u16) {
     if n <= words.len() {
         match look::chg_colcon_lookup(&words[..n], x, y) {
             LookAnswer::Found { selectors, alphas } => {
                 pair(
+                    rt,
                     b": selectors P alphas Q",
                     selectors as usize,
                     alphas as usize,
                 );
             }
             LookAnswer::Nothing => {
-                say(b": nothing");
+                say(rt, b": nothing");
             }
         }
     }
 }
 
 // The same of an array.
-fn look_in(words: &[u16; 1536], n: usize, x: u16, y: u16) {
-    look(words, n, x, y);
+fn look_in(rt: &impl Print, words: &[u16; 1536], n: usize, x: u16, y: u16) {
+    look(rt, words, n, x, y);
 }
 
 // The words that numbers with blanks between them write, and how many there are.
@@ -210,31 +219,31 @@ fn written(s: &[u8], words: &mut [u16]) -> usize {
 }
 
 // How many bands the first n words hold.
-fn held(words: &[u16], n: usize) {
+fn held(rt: &impl Print, words: &[u16], n: usize) {
     if n <= words.len() {
-        said(b": bands @", look::count_bands(&words[..n]));
+        said(rt, b": bands @", look::count_bands(&words[..n]));
     }
 }
 
-fn count_row(line: &[u8]) {
+fn count_row(rt: &impl Print, line: &[u8]) {
     let mut words = [0; 1536];
     let n = written(table::part(line, b'|', 4), &mut words);
-    held(&words, n);
+    held(rt, &words, n);
 }
 
-fn look_row(line: &[u8], payload: &[u8], x: usize, y: usize) {
+fn look_row(rt: &impl Print, line: &[u8], payload: &[u8], x: usize, y: usize) {
     let mut words = [0; 1536];
     let n = written(table::part(line, b'|', 4), &mut words);
     if 0 < n {
-        look(&words, n, (x % 65536) as u16, (y % 65536) as u16);
+        look(rt, &words, n, (x % 65536) as u16, (y % 65536) as u16);
         return;
     }
     match chg_colcon::parse_chg_colcon_payload(payload, &mut words) {
         BandAnswer::Words(count) => {
-            look_in(&words, count, (x % 65536) as u16, (y % 65536) as u16);
+            look_in(rt, &words, count, (x % 65536) as u16, (y % 65536) as u16);
         }
         BandAnswer::Refused(refusal) => {
-            refused(refusal);
+            refused(rt, refusal);
         }
     }
 }
@@ -275,48 +284,49 @@ fn total(s: &[u8]) -> usize {
     sum
 }
 
-fn summed(line: &[u8], file: &[u8], scratch: &mut [u8]) {
+fn summed(rt: &impl Print, line: &[u8], file: &[u8], scratch: &mut [u8]) {
     let position = table::given(line, 0);
     let answer = ps::extract_spu(file, position, table::given(line, 1), scratch);
     match answer {
         UnitAnswer::Bare(n) => {
-            said(b": bare @,", n);
+            said(rt, b": bare @,", n);
         }
         UnitAnswer::Joined(n) => {
-            said(b": joined @,", n);
+            said(rt, b": joined @,", n);
         }
         UnitAnswer::Refused(n) => {
-            refused(n);
+            refused(rt, n);
         }
     }
     said(
+        rt,
         b" sum @",
         total(ps::unit_part(file, &scratch[..], position, answer)),
     );
-    said(b"; scratch sum @", total(scratch));
+    said(rt, b"; scratch sum @", total(scratch));
 }
 
-fn with_scratch(line: &[u8], file: &[u8], room: usize) {
+fn with_scratch(rt: &impl Print, line: &[u8], file: &[u8], room: usize) {
     let mut scratch = [FOUND; 65536];
     if room <= 65536 {
-        summed(line, file, &mut scratch[..room]);
+        summed(rt, line, file, &mut scratch[..room]);
     }
 }
 
 // A file whose packets start at its front and at 32,774.
-fn packets(line: &[u8], file: &mut [u8]) {
+fn packets(rt: &impl Print, line: &[u8], file: &mut [u8]) {
     fill(file, 0, 0);
     table::stored(line, 3, file);
     if file.len() < 32774 {
         return;
     }
     table::stored(line, 4, &mut file[32774..]);
-    with_scratch(line, file, table::given(line, 2));
+    with_scratch(rt, line, file, table::given(line, 2));
 }
 
-fn longest(line: &[u8]) {
+fn longest(rt: &impl Print, line: &[u8]) {
     let mut file = [0; 65555];
-    packets(line, &mut file);
+    packets(rt, line, &mut file);
 }
 
 // How many bytes are as found.
@@ -385,48 +395,64 @@ fn back(unit: &[u8], width: usize, height: usize, indices: &[u8], map: &mut [u8]
     0
 }
 
-fn told_back(codes: usize) {
+fn told_back(rt: &impl Print, codes: usize) {
     if codes == 0 {
-        say(b"; NOT read back");
+        say(rt, b"; NOT read back");
     } else {
-        said(b"; codes @, read back", codes);
+        said(rt, b"; codes @, read back", codes);
     }
 }
 
-fn bytes_in(s: &[u8]) {
+fn bytes_in(rt: &impl Print, s: &[u8]) {
     let mut i = 0;
     while i < s.len() {
-        say(b" ");
-        hex(of_byte(s[i]));
+        say(rt, b" ");
+        hex(rt, of_byte(s[i]));
         i += 1;
     }
 }
 
 // A picture's answer, with the unit's bytes where `bytes` says so.
-fn tell(width: usize, height: usize, indices: &[u8], out: &mut [u8], map: &mut [u8], bytes: bool) {
+fn tell(
+    rt: &impl Print,
+    width: usize,
+    height: usize,
+    indices: &[u8],
+    out: &mut [u8],
+    map: &mut [u8],
+    bytes: bool,
+) {
     match demo::build_demo_spu(width, height, indices, out) {
         DemoAnswer::Wrote(n) => {
             if n <= out.len() {
-                said(b": wrote @", n);
+                said(rt, b": wrote @", n);
                 if bytes {
-                    bytes_in(&out[..n]);
+                    bytes_in(rt, &out[..n]);
                 }
-                said(b"; found @", found(&out[n..]));
-                told_back(back(&out[..n], width, height, indices, map));
+                said(rt, b"; found @", found(&out[n..]));
+                told_back(rt, back(&out[..n], width, height, indices, map));
             }
         }
         DemoAnswer::Refused(n) => {
-            refused(n);
-            said(b"; found @", found(out));
+            refused(rt, n);
+            said(rt, b"; found @", found(out));
         }
     }
 }
 
-fn lent(width: usize, height: usize, indices: &[u8], room: usize, bytes: bool) {
+fn lent(rt: &impl Print, width: usize, height: usize, indices: &[u8], room: usize, bytes: bool) {
     let mut out = [FOUND; 65536];
     let mut map = [FOUND; 131072];
     if room <= 65536 {
-        tell(width, height, indices, &mut out[..room], &mut map, bytes);
+        tell(
+            rt,
+            width,
+            height,
+            indices,
+            &mut out[..room],
+            &mut map,
+            bytes,
+        );
     }
 }
 
@@ -471,7 +497,7 @@ fn is_numbered_written(width: usize, height: usize, indices: &mut [u8], k: usize
     is_written(width, height, indices)
 }
 
-fn all(width: usize, height: usize, indices: &mut [u8], count: usize) {
+fn all(rt: &impl Print, width: usize, height: usize, indices: &mut [u8], count: usize) {
     let mut differ: usize = 0;
     let mut k = 0;
     while k < count {
@@ -479,94 +505,101 @@ fn all(width: usize, height: usize, indices: &mut [u8], count: usize) {
         differ = counted(differ, !written);
         k += 1;
     }
-    pair(b": @ pictures, A not read back", count, differ);
+    pair(rt, b": @ pictures, A not read back", count, differ);
 }
 
-fn picture(line: &[u8], indices: &mut [u8], width: usize, height: usize) {
+fn picture(rt: &impl Print, line: &[u8], indices: &mut [u8], width: usize, height: usize) {
     let count = table::given(line, 6);
     if 0 < count {
-        all(width, height, indices, count);
+        all(rt, width, height, indices, count);
         return;
     }
     fill(indices, table::given(line, 4), table::given(line, 5));
-    lent(width, height, indices, table::given(line, 2), false);
+    lent(rt, width, height, indices, table::given(line, 2), false);
 }
 
-fn sized(line: &[u8], indices: &mut [u8], width: usize, height: usize, size: usize) {
+fn sized(
+    rt: &impl Print,
+    line: &[u8],
+    indices: &mut [u8],
+    width: usize,
+    height: usize,
+    size: usize,
+) {
     if size <= indices.len() {
-        picture(line, &mut indices[..size], width, height);
+        picture(rt, line, &mut indices[..size], width, height);
     }
 }
 
-fn demo(line: &[u8], bytes: &[u8], width: usize, height: usize) {
+fn demo(rt: &impl Print, line: &[u8], bytes: &[u8], width: usize, height: usize) {
     let mut indices = [0; 131072];
     let size = table::given(line, 3);
     if size == 0 {
-        lent(width, height, bytes, table::given(line, 2), true);
+        lent(rt, width, height, bytes, table::given(line, 2), true);
         return;
     }
-    sized(line, &mut indices, width, height, size);
+    sized(rt, line, &mut indices, width, height, size);
 }
 
-fn asked(line: &[u8], bytes: &[u8]) {
+fn asked(rt: &impl Print, line: &[u8], bytes: &[u8]) {
     let a = table::given(line, 0);
     let b = table::given(line, 1);
     if starts(line, b"read_code|") {
-        code(bytes, a, b);
+        code(rt, bytes, a, b);
     }
     if starts(line, b"read_through|") {
-        nibble(bytes, a);
+        nibble(rt, bytes, a);
     }
     if starts(line, b"align_through|") {
-        said(b": count @", nibbles::align_through(bytes, a));
+        said(rt, b": count @", nibbles::align_through(bytes, a));
     }
     if starts(line, b"converted|") {
         let micros = clock::converted(Ticks((a % 65536) as u16));
-        say(b":");
-        signed(micros.0);
+        say(rt, b":");
+        signed(rt, micros.0);
     }
     if starts(line, b"times_of|") {
-        times(line, a, b);
+        times(rt, line, a, b);
     }
     if starts(line, b"chg_colcon_lookup|") {
-        look_row(line, bytes, a, b);
+        look_row(rt, line, bytes, a, b);
     }
     if starts(line, b"count_bands|") {
-        count_row(line);
+        count_row(rt, line);
     }
     if starts(line, b"measure_spu|") {
-        measured(bytes);
+        measured(rt, bytes);
     }
     if starts(line, b"extract_spu|") {
-        longest(line);
+        longest(rt, line);
     }
     if starts(line, b"build_demo_spu|") {
-        demo(line, bytes, a, b);
+        demo(rt, line, bytes, a, b);
     }
 }
 
-fn with_bytes(line: &[u8], bytes: &[u8], n: usize) {
+fn with_bytes(rt: &impl Print, line: &[u8], bytes: &[u8], n: usize) {
     if n <= bytes.len() {
-        asked(line, &bytes[..n]);
+        asked(rt, line, &bytes[..n]);
     }
 }
 
-fn row(line: &[u8]) {
+fn row(rt: &impl Print, line: &[u8]) {
     let mut bytes = [0; 8192];
     let n = table::stored(line, 3, &mut bytes);
-    say(table::part(line, b'|', 0));
-    say(b"|");
-    say(table::part(line, b'|', 1));
-    with_bytes(line, &bytes, n);
-    say(b"\n");
+    say(rt, table::part(line, b'|', 0));
+    say(rt, b"|");
+    say(rt, table::part(line, b'|', 1));
+    with_bytes(rt, line, &bytes, n);
+    say(rt, b"\n");
 }
 
-// Reads up to the next line end, and answers how many bytes stand before it.
-fn next_line(text: &mut [u8]) -> usize {
+// Reads up to the next line end, and answers how many bytes stand before it. A read that fails is the end of input.
+fn next_line(input: &mut impl Read, text: &mut [u8]) -> usize {
     let mut n = 0;
     while n < text.len() {
         let e = n + 1;
-        if io::read_full(STDIN_FILENO, &mut text[n..e]) == 0 {
+        if input.read(&mut text[n..e]).unwrap_or(0) == 0 {
             return n;
         }
         if text[n] == b'\n' {
@@ -578,21 +611,22 @@ fn next_line(text: &mut [u8]) -> usize {
 }
 
 // The rows up to an empty line or the end of input.
-fn rows(text: &mut [u8]) {
+fn rows(rt: &(impl Input + Print), text: &mut [u8]) {
+    let mut input = rt.reader();
     let mut k: usize = 0;
     while k < 18446744073709551615 {
-        let n = next_line(text);
+        let n = next_line(&mut input, text);
         if n == 0 {
             return;
         }
         if n <= text.len() {
-            row(&text[..n]);
+            row(rt, &text[..n]);
         }
         k += 1;
     }
 }
 
-fn main() {
-    let mut text = io::large_buffer();
-    rows(&mut text);
+fn main(rt: HostRuntime) {
+    let mut text = [0u8; 65536];
+    rows(&rt, &mut text);
 }

@@ -1,4 +1,6 @@
 // The packet at a place of a program stream, and the body of a PES packet (docs/FORMAT.md, 2.2 to 2.7).
+#![tactic(auto)]
+
 ghost use Rattle.std.specs.Prelude.{◌≡◌, ◌≤◌, ◌<◌, ◌+◌, ◌-◌, length};
 ghost use Rattle.std.proofs.Math.Option.{none};
 ghost use Rattle.outcome.specs.Outcome.{ok};

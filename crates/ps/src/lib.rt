@@ -1,4 +1,6 @@
 // The unit at a cue's position, bare or joined from the packets of a program stream (docs/FORMAT.md, section 2).
+#![tactic(auto)]
+
 ghost use Rattle.std.specs.Prelude.{◌≡◌, cond, List, [], ◌≤◌, ◌<◌, ◌+◌, ◌-◌, ltb, length, take, drop};
 ghost use Rattle.std.proofs.lemmas.List.Edits.{sets};
 ghost use Rattle.std.proofs.Math.Seq.{slice};

@@ -19,7 +19,6 @@ use Rattle.ps_model.specs.OnePacket.{packet_at}
 use Rattle.ps_model.specs.Packets.{Stand, stand, complete, stand_done, stand_packet, stand_next, packets_at}
 use Rattle.ps_model.specs.Answers.{joined_given}
 use Rattle.ps_model.specs.declared.JoinedAnswer.{JoinedAnswer}
-use Rattle.ps_model.specs.declared.JoinedAnswer.TheVariants as JoinedAnswer
 use Rattle.ps_model.proofs.Grammar.{packet-falls}
 use Rattle.ps_model.proofs.Read.{Told}
 

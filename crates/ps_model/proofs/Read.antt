@@ -18,7 +18,6 @@ use Rattle.grammar.proofs.PacketParts.{byte-slice, body-after, packet-longer}
 use Rattle.ps_model.specs.OnePacket.{body_at, packet, kept_at, pack_at, private_at, kind_at, packet_at}
 use Rattle.ps_model.specs.PacketAnswers.{body_rest, body_found, packet_given, whole_given, kept_given}
 use Rattle.ps_model.specs.declared.PacketAnswer.{PacketAnswer}
-use Rattle.ps_model.specs.declared.PacketAnswer.TheVariants as PacketAnswer
 use Rattle.ps_model.proofs.PacketGrammar.{packet-sound, body_iff}
 use Rattle.ps_model.proofs.Shift.{body_refuses, body_file}
 

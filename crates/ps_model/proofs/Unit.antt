@@ -18,7 +18,6 @@ use Rattle.ps_model.specs.Unit.{unit_at, joined_at, stream_unit}
 use Rattle.ps_model.specs.Answers.{joined_given, unit_given, unit_stored, Extracted}
 use Rattle.ps_model.specs.declared.JoinedAnswer.TheVariants as JoinedAnswer
 use Rattle.ps_model.specs.declared.UnitAnswer.{UnitAnswer}
-use Rattle.ps_model.specs.declared.UnitAnswer.TheVariants as UnitAnswer
 use Rattle.ps_model.proofs.Grammar.{bare-sound}
 
 -- an answer under another name

@@ -5,9 +5,7 @@ use Rattle.outcome.specs.Outcome.{Res, ok, refuse}
 use Rattle.grammar.specs.Packets.{Packet, Form, bare, packets, unit_of}
 use Rattle.ps_model.specs.Unit.{stream_unit}
 use Rattle.ps_model.specs.declared.JoinedAnswer.{JoinedAnswer}
-use Rattle.ps_model.specs.declared.JoinedAnswer.TheVariants as JoinedAnswer
 use Rattle.ps_model.specs.declared.UnitAnswer.{UnitAnswer}
-use Rattle.ps_model.specs.declared.UnitAnswer.TheVariants as UnitAnswer
 
 -- how many bytes packets give a unit
 abbrev pub joined_given : Res (List Packet) → JoinedAnswer

@@ -5,7 +5,6 @@ use Rattle.grammar.specs.Packets.{Packet, Form, IsForm, unit_of, scratch_for, st
 use Rattle.grammar.specs.Streams.{Walk, Alike}
 use Rattle.ps_model.specs.Answers.{form_given, unit_part, Extracted}
 use Rattle.ps_model.specs.declared.UnitAnswer.{UnitAnswer}
-use Rattle.ps_model.specs.declared.UnitAnswer.TheVariants as UnitAnswer
 
 -- the unit that the answer r speaks of, in the file f or in scratch s', is the one of stream n that stands at p in the
 -- form m

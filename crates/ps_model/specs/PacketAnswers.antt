@@ -4,9 +4,7 @@ use Rattle.std.proofs.Math.Option.{Option, some, none}
 use Rattle.outcome.specs.Outcome.{Res, ok, refuse, check, and_then, no_unit}
 use Rattle.grammar.specs.Packets.{Part, Packet}
 use Rattle.ps_model.specs.declared.BodyAnswer.{BodyAnswer}
-use Rattle.ps_model.specs.declared.BodyAnswer.TheVariants as BodyAnswer
 use Rattle.ps_model.specs.declared.PacketAnswer.{PacketAnswer}
-use Rattle.ps_model.specs.declared.PacketAnswer.TheVariants as PacketAnswer
 
 -- where a body starts
 abbrev pub body_given : Res ℕ → BodyAnswer

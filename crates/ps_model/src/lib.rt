@@ -1,7 +1,8 @@
 // Units from packets without their functions: one packet, the packets of a unit, their answers, laws and claim.
+#![tactic(auto)]
 
 // Where the body of a PES starts.
-#[derive(Drop)]
+#[derive(Clone, Copy)]
 pub enum BodyAnswer {
     At(usize),
     // The number of the refusal.
@@ -9,7 +10,7 @@ pub enum BodyAnswer {
 }
 
 // What the packet at a place is.
-#[derive(Drop)]
+#[derive(Clone, Copy)]
 pub enum PacketAnswer {
     // It keeps the bytes from the first place up to the second, where it ends.
     Keeps(usize, usize),
@@ -20,7 +21,7 @@ pub enum PacketAnswer {
 }
 
 // How many bytes the packets from a place on give a unit.
-#[derive(Drop)]
+#[derive(Clone, Copy)]
 pub enum JoinedAnswer {
     Holds(usize),
     // The number of the refusal.
@@ -28,7 +29,7 @@ pub enum JoinedAnswer {
 }
 
 // Where the unit at a position stands.
-#[derive(Drop)]
+#[derive(Clone, Copy)]
 pub enum UnitAnswer {
     // In the file, from the position on; its length.
     Bare(usize),

@@ -1,6 +1,8 @@
 // Replays the fixed list of the oracle's answers (standard input; oracle/src/bin/list.rs makes it and says how it is laid out) through the
 // exported functions, and writes a line for each class: how many rows there are, and how many are answered otherwise.
-use libc::{STDIN_FILENO, STDOUT_FILENO};
+#![tactic(auto)]
+
+use std::io::Read;
 
 // What lent memory holds before a call.
 const BYTE: u8 = 0xA5;
@@ -14,7 +16,7 @@ const START: i64 = 0x5AC35A3C0FF09669;
 const PLACE: u32 = 0x0FF09669;
 
 // What a row of the list expects: the refusal, and the sum over all that a call gives and all that was lent to it.
-#[derive(Drop)]
+#[derive(Clone, Copy)]
 struct Expected {
     refusal: u8,
     sum: u64,
@@ -375,13 +377,21 @@ fn row(class: u8, bytes: &[u8], a: usize, b: usize, c: usize, d: usize, e: Expec
     false
 }
 
-// Whether the input has bytes for all of s.
-fn read_all(s: &mut [u8]) -> bool {
-    io::read_full(STDIN_FILENO, s) == s.len()
+// Whether the input has bytes for all of s. A read that fails is the end of input.
+fn read_all(input: &mut impl Read, s: &mut [u8]) -> bool {
+    let mut done = 0;
+    while done < s.len() {
+        let n = input.read(&mut s[done..]).unwrap_or(0);
+        if n == 0 {
+            return false;
+        }
+        done += n;
+    }
+    true
 }
 
-fn read_row(head: [u8; 16], bytes: &mut [u8]) -> bool {
-    if !read_all(bytes) {
+fn read_row(input: &mut impl Read, head: [u8; 16], bytes: &mut [u8]) -> bool {
+    if !read_all(input, bytes) {
         return false;
     }
     let e = Expected {
@@ -399,21 +409,21 @@ fn read_row(head: [u8; 16], bytes: &mut [u8]) -> bool {
     )
 }
 
-fn read_front(head: [u8; 16], bytes: &mut [u8], length: usize) -> bool {
+fn read_front(input: &mut impl Read, head: [u8; 16], bytes: &mut [u8], length: usize) -> bool {
     if length <= bytes.len() {
-        return read_row(head, &mut bytes[..length]);
+        return read_row(input, head, &mut bytes[..length]);
     }
     false
 }
 
 // Whether the next row of the list is answered as it expects.
-fn next_row() -> bool {
+fn next_row(input: &mut impl Read) -> bool {
     let mut head = [0; 16];
     let mut bytes = [0; 4096];
-    if !read_all(&mut head) {
+    if !read_all(input, &mut head) {
         return false;
     }
-    read_front(head, &mut bytes, word_of(head[2], head[3]))
+    read_front(input, head, &mut bytes, word_of(head[2], head[3]))
 }
 
 // The number of rows answered otherwise, after one more row.
@@ -427,44 +437,54 @@ fn counted(differ: usize, good: bool) -> usize {
     differ
 }
 
+// Writes s. What a write that fails leaves unwritten stays so.
+fn say(rt: &impl Print, s: &[u8]) {
+    let _ = rt.write_all(s);
+}
+
+fn decimal(rt: &impl Print, n: u64) {
+    let _ = rt.print(n);
+}
+
 // As many rows as the next two bytes of the list say.
-fn class(name: &[u8]) {
+fn class(rt: &impl Print, input: &mut impl Read, name: &[u8]) {
     let mut head = [0; 2];
-    let there = read_all(&mut head);
+    let there = read_all(input, &mut head);
     let count = word_of(head[0], head[1]);
     let mut done: usize = 0;
     let mut differ: usize = 0;
     while done < count {
-        differ = counted(differ, next_row());
+        differ = counted(differ, next_row(input));
         done += 1;
     }
-    io::write_all(STDOUT_FILENO, name);
+    say(rt, name);
     if there {
-        io::write_all(STDOUT_FILENO, b": replayed ");
+        say(rt, b": replayed ");
     } else {
-        io::write_all(STDOUT_FILENO, b": no list, ");
+        say(rt, b": no list, ");
     }
-    io::print_decimal(STDOUT_FILENO, done as u64);
-    io::write_all(STDOUT_FILENO, b", ");
-    io::print_decimal(STDOUT_FILENO, differ as u64);
-    io::write_all(STDOUT_FILENO, b" differ\n");
+    decimal(rt, done as u64);
+    say(rt, b", ");
+    decimal(rt, differ as u64);
+    say(rt, b" differ\n");
 }
 
-fn main() {
+fn main(rt: HostRuntime) {
+    let mut input = rt.reader();
     // how the list was made, in words
     let mut words = [0; 128];
-    let there = read_all(&mut words);
+    let there = read_all(&mut input, &mut words);
     if there {
-        io::write_all(STDOUT_FILENO, &words);
+        say(&rt, &words);
     }
-    class(b"pes");
-    class(b"packets");
-    class(b"bands");
-    class(b"control");
-    class(b"fields");
-    class(b"units");
-    class(b"written");
-    class(b"idx");
-    class(b"cue");
-    class(b"canvas");
+    class(&rt, &mut input, b"pes");
+    class(&rt, &mut input, b"packets");
+    class(&rt, &mut input, b"bands");
+    class(&rt, &mut input, b"control");
+    class(&rt, &mut input, b"fields");
+    class(&rt, &mut input, b"units");
+    class(&rt, &mut input, b"written");
+    class(&rt, &mut input, b"idx");
+    class(&rt, &mut input, b"cue");
+    class(&rt, &mut input, b"canvas");
 }

@@ -1,4 +1,6 @@
 // The rows of a picture's fields, read code by code into rows of the index map (docs/FORMAT.md, section 5).
+#![tactic(auto)]
+
 ghost use Rattle.std.specs.Prelude.{◌≡◌, ◌+◌, ◌*◌, ◌-◌, ◌%◌, ◌<◌, ◌≤◌, ◌^◌, length, replicate, set, take, leb};
 ghost use Rattle.std.proofs.lemmas.List.Edits.{sets};
 ghost use Rattle.outcome.specs.Outcome.{IsOk, listed};

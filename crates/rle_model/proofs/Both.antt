@@ -18,7 +18,6 @@ use Rattle.rle_model.specs.Fields.{weave, lower_at, fields_at, FieldsDecoded, bo
 use Rattle.rle_model.specs.Answers.{nothing, plus, counted, AtMost, row_counts, field_counts, field_answer, plus_field, measured, part_rows, Counted}
 use Rattle.rle_model.specs.declared.Counts.{Counts}
 use Rattle.rle_model.specs.declared.FieldAnswer.{FieldAnswer}
-use Rattle.rle_model.specs.declared.FieldAnswer.TheVariants as FieldAnswer
 use Rattle.rle_model.proofs.Grammar.{paints-pos, field-iff}
 use Rattle.rle_model.proofs.Loops.{plus-nothing, at-most_le, at-most-plus, at_most_one, fielded, unfielded, width_fits}
 use Rattle.rle_model.proofs.Refusals.{field-refuses}

@@ -23,9 +23,7 @@ use Rattle.rle_model.specs.Answers.{nothing, plus, counted, last_counts, AtMost,
 use Rattle.rle_model.specs.declared.Cursor.{Cursor}
 use Rattle.rle_model.specs.declared.Counts.{Counts}
 use Rattle.rle_model.specs.declared.RowAnswer.{RowAnswer}
-use Rattle.rle_model.specs.declared.RowAnswer.TheVariants as RowAnswer
 use Rattle.rle_model.specs.declared.FieldAnswer.{FieldAnswer}
-use Rattle.rle_model.specs.declared.FieldAnswer.TheVariants as FieldAnswer
 use Rattle.rle_model.proofs.Grammar.{row-iff, row_step, row-none}
 use Rattle.grammar.proofs.Clipped.{clipped-paints}
 use Rattle.rle_model.proofs.CodeLoops.{Coded}

@@ -11,9 +11,7 @@ use Rattle.rle_model.specs.Kept.{kept_row, kept_all}
 use Rattle.rle_model.specs.declared.Cursor.{Cursor}
 use Rattle.rle_model.specs.declared.Counts.{Counts}
 use Rattle.rle_model.specs.declared.RowAnswer.{RowAnswer}
-use Rattle.rle_model.specs.declared.RowAnswer.TheVariants as RowAnswer
 use Rattle.rle_model.specs.declared.FieldAnswer.{FieldAnswer}
-use Rattle.rle_model.specs.declared.FieldAnswer.TheVariants as FieldAnswer
 
 -- ---- What rows count (FORMAT 5.9, 5.11)
 

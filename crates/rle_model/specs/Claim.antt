@@ -5,7 +5,6 @@ use Rattle.grammar.specs.Rows.{Code, FieldRows}
 use Rattle.grammar.specs.Pixels.{codes_in, clipped_in}
 use Rattle.rle_model.specs.Field.{rows_from, paint_field}
 use Rattle.rle_model.specs.declared.FieldAnswer.{FieldAnswer}
-use Rattle.rle_model.specs.declared.FieldAnswer.TheVariants as FieldAnswer
 
 -- rs are the rows of the field s for the rows start, start + 2, .. below h
 pub record Listing (s : List ℕ) (w h start : ℕ) (rs : List (List Code)) : Type 0 where

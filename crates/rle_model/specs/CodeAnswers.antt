@@ -4,7 +4,6 @@ use Rattle.std.specs.Prelude.{ℕ, ◌+◌}
 use Rattle.outcome.specs.Outcome.{Res, ok, refuse}
 use Rattle.grammar.specs.Rows.{Code, overshoots}
 use Rattle.rle_model.specs.declared.CodeAnswer.{CodeAnswer}
-use Rattle.rle_model.specs.declared.CodeAnswer.TheVariants as CodeAnswer
 
 -- with `left` pixels of its row to go (FORMAT 5.11)
 abbrev pub code_answer : ℕ → Res Code → CodeAnswer

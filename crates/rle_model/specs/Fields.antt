@@ -8,7 +8,6 @@ use Rattle.rle_model.specs.Codes.{field_at}
 use Rattle.rle_model.specs.Field.{rows_from, paint_field}
 use Rattle.rle_model.specs.Answers.{plus_field, field_counts, field_answer}
 use Rattle.rle_model.specs.declared.FieldAnswer.{FieldAnswer}
-use Rattle.rle_model.specs.declared.FieldAnswer.TheVariants as FieldAnswer
 
 -- rows 0, 2, .. from one list and rows 1, 3, .. from another, as many of the first or one more (FORMAT 5.7)
 unfoldable pub weave : {A : Type 0} → List A → List A → List A

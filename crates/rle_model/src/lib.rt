@@ -1,7 +1,8 @@
 // Run codes without their functions: nibbles, codes, the rows of one field and of both, with their answers, laws and claim.
+#![tactic(auto)]
 
 // What reading a nibble finds.
-#[derive(Drop)]
+#[derive(Clone, Copy)]
 pub enum Nibble {
     // The nibble, 0 to 15.
     Is(usize),
@@ -10,13 +11,13 @@ pub enum Nibble {
 }
 
 // A half-byte count over a field's bytes.
-#[derive(Drop)]
+#[derive(Clone, Copy)]
 pub struct Cursor {
     pub pos: usize,
 }
 
 // What reading a code finds.
-#[derive(Drop)]
+#[derive(Clone, Copy)]
 pub enum CodeAnswer {
     // A code of `size` nibbles that make `value`, whether it is longer than what was left of its row, and the place
     // after it.
@@ -31,7 +32,7 @@ pub enum CodeAnswer {
 }
 
 // What rows count.
-#[derive(Drop)]
+#[derive(Clone, Copy)]
 pub struct Counts {
     // Codes read, fills and clipped ones included.
     pub codes: usize,
@@ -40,7 +41,7 @@ pub struct Counts {
 }
 
 // What measuring a row finds.
-#[derive(Drop)]
+#[derive(Clone, Copy)]
 pub enum RowAnswer {
     // What its codes count, and the place after the last.
     Row { counts: Counts, next: Cursor },
@@ -48,7 +49,7 @@ pub enum RowAnswer {
 }
 
 // What a field gives.
-#[derive(Drop)]
+#[derive(Clone, Copy)]
 pub enum FieldAnswer {
     // What its rows count.
     Rows(Counts),

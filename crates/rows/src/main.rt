@@ -7,8 +7,10 @@
 // decode_cue: cue, stream; scratch, map, canvas. decode_rle_field: width, height, start row; map.
 // parse_chg_colcon_payload: none. Of an array of bands all words are written: as many as are used in hexadecimal, and
 // the others in runs.
+#![tactic(auto)]
+
 use idx_numbers::starts;
-use libc::{STDIN_FILENO, STDOUT_FILENO};
+use std::io::Read;
 
 // No grey of an index of no bytes.
 const FOUND: u8 = 237;
@@ -21,36 +23,41 @@ const FOUND_POSITION: u32 = 0xEDEDEDED;
 
 const FOUND_NUMBER: u64 = 77;
 
-fn say(s: &[u8]) {
-    io::write_all(STDOUT_FILENO, s);
+// Writes s. What a write that fails leaves unwritten stays so.
+fn say(rt: &impl Print, s: &[u8]) {
+    let _ = rt.write_all(s);
 }
 
-fn digit(n: usize) {
+fn decimal(rt: &impl Print, n: u64) {
+    let _ = rt.print(n);
+}
+
+fn digit(rt: &impl Print, n: usize) {
     let d = (n % 16) as u8;
     if d < 10 {
-        say(&[48 + d]);
+        say(rt, &[48 + d]);
     } else {
-        say(&[55 + d]);
+        say(rt, &[55 + d]);
     }
 }
 
-fn hex(n: usize) {
-    digit(n / 16);
-    digit(n);
+fn hex(rt: &impl Print, n: usize) {
+    digit(rt, n / 16);
+    digit(rt, n);
 }
 
-fn mark(c: u8, n: usize) {
+fn mark(rt: &impl Print, c: u8, n: usize) {
     let kind = c / 16;
     if kind == 4 {
-        io::print_decimal(STDOUT_FILENO, n as u64);
+        decimal(rt, n as u64);
         return;
     }
     if kind == 5 {
-        hex(n / 256);
-        hex(n);
+        hex(rt, n / 256);
+        hex(rt, n);
         return;
     }
-    say(&[c]);
+    say(rt, &[c]);
 }
 
 fn of_byte(b: u8) -> usize {
@@ -59,31 +66,31 @@ fn of_byte(b: u8) -> usize {
 
 // Writes a form: for bytes 40 to 4F (`@`, `A` to `O`) number 0 to 15 in decimal, for 50 to 5F the same in hexadecimal,
 // and others as they are.
-fn form(s: &[u8], numbers: &[usize; 17]) {
+fn form(rt: &impl Print, s: &[u8], numbers: &[usize; 17]) {
     let mut i = 0;
     while i < s.len() {
         let c = s[i];
-        mark(c, numbers[of_byte(c) % 16]);
+        mark(rt, c, numbers[of_byte(c) % 16]);
         i += 1;
     }
 }
 
-fn pair(s: &[u8], a: usize, b: usize) {
+fn pair(rt: &impl Print, s: &[u8], a: usize, b: usize) {
     let mut numbers = [a; 17];
     numbers[1] = b;
-    form(s, &numbers);
+    form(rt, s, &numbers);
 }
 
-fn number(n: usize) {
-    form(b" @", &[n; 17]);
+fn number(rt: &impl Print, n: usize) {
+    form(rt, b" @", &[n; 17]);
 }
 
 // Whether nothing is refused.
-fn answered(refusal: u8) -> bool {
+fn answered(rt: &impl Print, refusal: u8) -> bool {
     if refusal == 0 {
         return true;
     }
-    form(b": refused @", &[refusal as usize; 17]);
+    form(rt, b": refused @", &[refusal as usize; 17]);
     false
 }
 
@@ -112,99 +119,100 @@ fn any_value(bytes: &[u8], words: &[u16], longs: &[u64], i: usize) -> usize {
     value(bytes, words, i)
 }
 
-fn run(count: usize, value: usize, found: usize) {
+fn run(rt: &impl Print, count: usize, value: usize, found: usize) {
     if value == found {
-        form(b" @x.", &[count; 17]);
+        form(rt, b" @x.", &[count; 17]);
         return;
     }
-    pair(b" @xA", count, value);
+    pair(rt, b" @xA", count, value);
 }
 
 // The n bytes, words or numbers in runs of equal values, `NxV`.
-fn runs(bytes: &[u8], words: &[u16], longs: &[u64], n: usize, found: usize) {
+fn runs(rt: &impl Print, bytes: &[u8], words: &[u16], longs: &[u64], n: usize, found: usize) {
     let mut from = 0;
     let mut i = 0;
     while i < n {
         let v = any_value(bytes, words, longs, i);
         i += 1;
         if any_value(bytes, words, longs, i) != v {
-            run(i - from, v, found);
+            run(rt, i - from, v, found);
             from = i;
         }
     }
 }
 
-fn byte_runs(label: &[u8], s: &[u8]) {
-    say(label);
-    runs(s, &[], &[], s.len(), 237);
+fn byte_runs(rt: &impl Print, label: &[u8], s: &[u8]) {
+    say(rt, label);
+    runs(rt, s, &[], &[], s.len(), 237);
 }
 
-fn cell(v: usize, found: usize) {
+fn cell(rt: &impl Print, v: usize, found: usize) {
     if v == found {
-        say(b" .");
+        say(rt, b" .");
         return;
     }
-    say(b" ");
+    say(rt, b" ");
     if 256 < found {
-        hex(v / 256);
+        hex(rt, v / 256);
     }
-    hex(v);
+    hex(rt, v);
 }
 
 // The n bytes or words in hexadecimal; bytes have a `found` of 256 where none is to be marked.
-fn cells(bytes: &[u8], words: &[u16], n: usize, found: usize) {
+fn cells(rt: &impl Print, bytes: &[u8], words: &[u16], n: usize, found: usize) {
     let mut i = 0;
     while i < n {
-        cell(value(bytes, words, i), found);
+        cell(rt, value(bytes, words, i), found);
         i += 1;
     }
 }
 
-fn band_words(s: &[u16], used: usize) {
+fn band_words(rt: &impl Print, s: &[u16], used: usize) {
     if used <= s.len() {
-        cells(b"", s, used, 61166);
+        cells(rt, b"", s, used, 61166);
         let rest = &s[used..];
-        runs(b"", rest, &[], rest.len(), 61166);
+        runs(rt, b"", rest, &[], rest.len(), 61166);
     }
 }
 
 // An array of bands of which `used` words are used.
-fn band_array(s: &[u16; 1536], used: usize) {
-    say(b"; bands");
-    band_words(s, used);
+fn band_array(rt: &impl Print, s: &[u16; 1536], used: usize) {
+    say(rt, b"; bands");
+    band_words(rt, s, used);
 }
 
-fn decoded(unit: &[u8], map: &mut [u8]) {
+fn decoded(rt: &impl Print, unit: &[u8], map: &mut [u8]) {
     let mut numbers: [usize; 17] = [0; 17];
     let mut words = [FOUND_WORD; 1536];
     let refusal = vobsub_c::vobsub_parse_and_decode_spu(unit, map, &mut words, &mut numbers);
-    if answered(refusal) {
+    if answered(rt, refusal) {
         form(
+            rt,
             b": area @ A B C, selectors T, alphas U, start F G, stop H I, forced J, offsets K L, change M, band words N, codes O",
             &numbers,
         );
-        form(b", clipped @", &[numbers[16]; 17]);
+        form(rt, b", clipped @", &[numbers[16]; 17]);
     }
-    byte_runs(b"; map", map);
-    band_array(&words, numbers[14]);
+    byte_runs(rt, b"; map", map);
+    band_array(rt, &words, numbers[14]);
 }
 
-fn unit(bytes: &[u8], room: usize) {
+fn unit(rt: &impl Print, bytes: &[u8], room: usize) {
     let mut map = [FOUND; 256];
     if room <= 256 {
-        decoded(bytes, &mut map[..room]);
+        decoded(rt, bytes, &mut map[..room]);
     }
 }
 
 // The bytes of a part of s.
-fn part_of(s: &[u8], from: usize, length: usize) {
+fn part_of(rt: &impl Print, s: &[u8], from: usize, length: usize) {
     if from <= s.len() {
         let rest = &s[from..];
-        cells(rest, &[], outcome::lesser(length, rest.len()), 256);
+        cells(rt, rest, &[], outcome::lesser(length, rest.len()), 256);
     }
 }
 
-fn extracted(file: &[u8], position: usize, stream: usize, scratch: &mut [u8]) {
+fn extracted(rt: &impl Print, file: &[u8], position: usize, stream: usize, scratch: &mut [u8]) {
     let mut length: usize = 0;
     let mut joined: u8 = 0;
     let refusal = vobsub_c::vobsub_extract_spu(
@@ -215,76 +223,76 @@ fn extracted(file: &[u8], position: usize, stream: usize, scratch: &mut [u8]) {
         &mut length,
         &mut joined,
     );
-    if answered(refusal) {
+    if answered(rt, refusal) {
         if joined == 0 {
-            form(b": bare @,", &[length; 17]);
-            part_of(file, position, length);
+            form(rt, b": bare @,", &[length; 17]);
+            part_of(rt, file, position, length);
         } else {
-            form(b": joined @,", &[length; 17]);
-            part_of(scratch, 0, length);
+            form(rt, b": joined @,", &[length; 17]);
+            part_of(rt, scratch, 0, length);
         }
     }
-    say(b"; scratch");
-    cells(scratch, &[], scratch.len(), 237);
+    say(rt, b"; scratch");
+    cells(rt, scratch, &[], scratch.len(), 237);
 }
 
-fn packets(file: &[u8], position: usize, stream: usize, room: usize) {
+fn packets(rt: &impl Print, file: &[u8], position: usize, stream: usize, room: usize) {
     let mut scratch = [FOUND; 8];
     if room <= 8 {
-        extracted(file, position, stream, &mut scratch[..room]);
+        extracted(rt, file, position, stream, &mut scratch[..room]);
     }
 }
 
-fn signed(z: i64) {
+fn signed(rt: &impl Print, z: i64) {
     if z < 0 {
-        say(b" -");
+        say(rt, b" -");
         let n = (-1 - z) as u64;
-        io::print_decimal(STDOUT_FILENO, n + 1);
+        decimal(rt, n + 1);
     } else {
-        number(z as usize);
+        number(rt, z as usize);
     }
 }
 
-fn start(z: i64) {
+fn start(rt: &impl Print, z: i64) {
     if z == FOUND_START {
-        say(b" .");
+        say(rt, b" .");
     } else {
-        signed(z);
+        signed(rt, z);
     }
 }
 
-fn all_starts(starts: &[i64]) {
-    say(b"; starts");
+fn all_starts(rt: &impl Print, starts: &[i64]) {
+    say(rt, b"; starts");
     let mut i = 0;
     while i < starts.len() {
         let z = starts[i];
-        start(z);
+        start(rt, z);
         i += 1;
     }
 }
 
-fn counted(n: u64) {
+fn counted(rt: &impl Print, n: u64) {
     if n == FOUND_NUMBER {
-        say(b" .");
+        say(rt, b" .");
     } else {
-        number(of_long(n));
+        number(rt, of_long(n));
     }
 }
 
 // A place is as found only where all four of its bytes are.
-fn position(n: u32) {
+fn position(rt: &impl Print, n: u32) {
     if n == FOUND_POSITION {
-        say(b" .");
+        say(rt, b" .");
     } else {
-        number(n as usize);
+        number(rt, n as usize);
     }
 }
 
-fn all_positions(positions: &[u32]) {
-    say(b"; positions");
+fn all_positions(rt: &impl Print, positions: &[u32]) {
+    say(rt, b"; positions");
     let mut i = 0;
     while i < positions.len() {
-        position(positions[i]);
+        position(rt, positions[i]);
         i += 1;
     }
 }
@@ -301,8 +309,8 @@ fn black(palette: &[u8; 48]) -> bool {
 }
 
 // Whether there is a palette, and its colours, but for a black one that no line gives.
-fn colours(any: usize, palette: &[u8; 48]) {
-    form(b", palette @", &[any; 17]);
+fn colours(rt: &impl Print, any: usize, palette: &[u8; 48]) {
+    form(rt, b", palette @", &[any; 17]);
     if any == 0 {
         if black(palette) {
             return;
@@ -311,32 +319,32 @@ fn colours(any: usize, palette: &[u8; 48]) {
     let mut i = 0;
     while i < 48 {
         if i % 3 == 0 {
-            say(b" ");
+            say(rt, b" ");
         }
-        hex(of_byte(palette[i]));
+        hex(rt, of_byte(palette[i]));
         i += 1;
     }
 }
 
-fn indexed(text: &[u8], starts: &mut [i64], positions: &mut [u32]) {
+fn indexed(rt: &impl Print, text: &[u8], starts: &mut [i64], positions: &mut [u32]) {
     let mut palette: [u8; 48] = [FOUND; 48];
     let mut numbers: [usize; 4] = [77; 4];
     let refusal = vobsub_c::vobsub_parse_idx(text, starts, positions, &mut palette, &mut numbers);
-    if answered(refusal) {
-        pair(b": size @ A", numbers[0], numbers[1]);
-        colours(numbers[2], &palette);
-        form(b", cues @", &[numbers[3]; 17]);
+    if answered(rt, refusal) {
+        pair(rt, b": size @ A", numbers[0], numbers[1]);
+        colours(rt, numbers[2], &palette);
+        form(rt, b", cues @", &[numbers[3]; 17]);
     }
-    all_starts(starts);
-    all_positions(positions);
+    all_starts(rt, starts);
+    all_positions(rt, positions);
 }
 
-fn index(text: &[u8], a: usize, b: usize) {
+fn index(rt: &impl Print, text: &[u8], a: usize, b: usize) {
     let mut starts = [FOUND_START; 8];
     let mut positions = [FOUND_POSITION; 8];
     if a <= 8 {
         if b <= 8 {
-            indexed(text, &mut starts[..a], &mut positions[..b]);
+            indexed(rt, text, &mut starts[..a], &mut positions[..b]);
         }
     }
 }
@@ -351,63 +359,65 @@ fn sizes(numbers: &[u64; 13]) -> [usize; 17] {
     all
 }
 
-fn lasts(set: u64, duration: u64) {
+fn lasts(rt: &impl Print, set: u64, duration: u64) {
     if set == 0 {
-        say(b" -");
+        say(rt, b" -");
     } else {
-        number(of_long(duration));
+        number(rt, of_long(duration));
     }
 }
 
-fn cue(text: &[u8], n: usize) {
+fn cue(rt: &impl Print, text: &[u8], n: usize) {
     let mut start: i64 = FOUND_START;
     let mut palette: [u8; 48] = [FOUND; 48];
     let mut numbers: [u64; 4] = [FOUND_NUMBER; 4];
-    form(b", cue @", &[n; 17]);
+    form(rt, b", cue @", &[n; 17]);
     let refusal = vobsub_c::vobsub_pick_cue(text, n, &mut start, &mut palette, &mut numbers);
-    if answered(refusal) {
-        say(b": start");
-        signed(start);
-        form(b", position @, duration", &[of_long(numbers[0]); 17]);
-        lasts(numbers[1], numbers[2]);
-        colours(of_long(numbers[3]), &palette);
+    if answered(rt, refusal) {
+        say(rt, b": start");
+        signed(rt, start);
+        form(rt, b", position @, duration", &[of_long(numbers[0]); 17]);
+        lasts(rt, numbers[1], numbers[2]);
+        colours(rt, of_long(numbers[3]), &palette);
     }
 }
 
 // What a refusal leaves of times and numbers.
-fn kept(times: &[i64; 3], numbers: &[u64; 13]) {
+fn kept(rt: &impl Print, times: &[i64; 3], numbers: &[u64; 13]) {
     let begin = times[0];
     let show = times[1];
     let hide = times[2];
-    say(b", times");
-    start(begin);
-    start(show);
-    start(hide);
-    say(b", numbers");
-    runs(b"", &[], numbers, 13, 77);
+    say(rt, b", times");
+    start(rt, begin);
+    start(rt, show);
+    start(rt, hide);
+    say(rt, b", numbers");
+    runs(rt, b"", &[], numbers, 13, 77);
 }
 
-fn shown(refusal: u8, times: &[i64; 3], numbers: &[u64; 13]) {
-    if answered(refusal) {
+fn shown(rt: &impl Print, refusal: u8, times: &[i64; 3], numbers: &[u64; 13]) {
+    if answered(rt, refusal) {
         let begin = times[0];
         let show = times[1];
         let hide = times[2];
-        say(b":");
-        signed(begin);
-        lasts(numbers[0], numbers[1]);
+        say(rt, b":");
+        signed(rt, begin);
+        lasts(rt, numbers[0], numbers[1]);
         form(
+            rt,
             b", at D E, size F G, delays B C, codes H, clipped I, started J, stopped K, hides L, show",
             &sizes(numbers),
         );
-        signed(show);
-        say(b", hide");
-        signed(hide);
+        signed(rt, show);
+        say(rt, b", hide");
+        signed(rt, hide);
         return;
     }
-    kept(times, numbers);
+    kept(rt, times, numbers);
 }
 
 fn painted(
+    rt: &impl Print,
     line: &[u8],
     text: &[u8],
     file: &[u8],
@@ -428,13 +438,13 @@ fn painted(
         &mut times,
         &mut numbers,
     );
-    shown(refusal, &times, &numbers);
-    byte_runs(b"; scratch", scratch);
-    byte_runs(b"; map", map);
-    byte_runs(b"; canvas", canvas);
+    shown(rt, refusal, &times, &numbers);
+    byte_runs(rt, b"; scratch", scratch);
+    byte_runs(rt, b"; map", map);
+    byte_runs(rt, b"; canvas", canvas);
 }
 
-fn lent(line: &[u8], text: &[u8], file: &[u8]) {
+fn lent(rt: &impl Print, line: &[u8], text: &[u8], file: &[u8]) {
     let mut scratch = [FOUND; 8192];
     let mut map = [FOUND; 300];
     let mut canvas = [FOUND; 1200];
@@ -445,6 +455,7 @@ fn lent(line: &[u8], text: &[u8], file: &[u8]) {
         if b <= 300 {
             if c <= 1200 {
                 painted(
+                    rt,
                     line,
                     text,
                     file,
@@ -457,19 +468,26 @@ fn lent(line: &[u8], text: &[u8], file: &[u8]) {
     }
 }
 
-fn with_file(line: &[u8], text: &[u8], file: &[u8], n: usize) {
+fn with_file(rt: &impl Print, line: &[u8], text: &[u8], file: &[u8], n: usize) {
     if n <= file.len() {
-        lent(line, text, &file[..n]);
+        lent(rt, line, text, &file[..n]);
     }
 }
 
-fn paint(line: &[u8], text: &[u8]) {
+fn paint(rt: &impl Print, line: &[u8], text: &[u8]) {
     let mut file = [0; 8192];
     let n = table::stored(line, 4, &mut file);
-    with_file(line, text, &file, n);
+    with_file(rt, line, text, &file, n);
 }
 
-fn field_decoded(field: &[u8], width: usize, height: usize, start_row: usize, map: &mut [u8]) {
+fn field_decoded(
+    rt: &impl Print,
+    field: &[u8],
+    width: usize,
+    height: usize,
+    start_row: usize,
+    map: &mut [u8],
+) {
     let mut codes: usize = 77;
     let mut clipped: usize = 77;
     let refusal = vobsub_c::vobsub_decode_rle_field(
@@ -481,23 +499,24 @@ fn field_decoded(field: &[u8], width: usize, height: usize, start_row: usize, ma
         &mut codes,
         &mut clipped,
     );
-    if answered(refusal) {
-        say(b":");
+    if answered(rt, refusal) {
+        say(rt, b":");
     } else {
-        say(b",");
+        say(rt, b",");
     }
-    say(b" codes");
-    counted(codes as u64);
-    say(b", clipped");
-    counted(clipped as u64);
-    byte_runs(b",", map);
+    say(rt, b" codes");
+    counted(rt, codes as u64);
+    say(rt, b", clipped");
+    counted(rt, clipped as u64);
+    byte_runs(rt, b",", map);
 }
 
-fn field(line: &[u8], bytes: &[u8], width: usize, height: usize) {
+fn field(rt: &impl Print, line: &[u8], bytes: &[u8], width: usize, height: usize) {
     let mut map = [FOUND; 60000];
     let room = table::given(line, 3);
     if room <= 60000 {
         field_decoded(
+            rt,
             bytes,
             width,
             height,
@@ -507,64 +526,64 @@ fn field(line: &[u8], bytes: &[u8], width: usize, height: usize) {
     }
 }
 
-fn bands(payload: &[u8]) {
+fn bands(rt: &impl Print, payload: &[u8]) {
     let mut words = [FOUND_WORD; 1536];
     let mut count: usize = 0;
     let refusal = vobsub_c::vobsub_parse_chg_colcon_payload(payload, &mut words, &mut count);
-    if answered(refusal) {
-        form(b": words @", &[count; 17]);
+    if answered(rt, refusal) {
+        form(rt, b": words @", &[count; 17]);
     }
-    band_array(&words, count);
+    band_array(rt, &words, count);
 }
 
-fn asked(line: &[u8], bytes: &[u8]) {
+fn asked(rt: &impl Print, line: &[u8], bytes: &[u8]) {
     let a = table::given(line, 0);
     let b = table::given(line, 1);
     if starts(line, b"parse_and_decode_spu|") {
-        unit(bytes, a);
+        unit(rt, bytes, a);
     }
     if starts(line, b"extract_spu|") {
-        packets(bytes, a, b, table::given(line, 2));
+        packets(rt, bytes, a, b, table::given(line, 2));
     }
     if starts(line, b"parse_idx|") {
-        index(bytes, a, b);
+        index(rt, bytes, a, b);
     }
     if starts(line, b"pick_cue|") {
-        cue(bytes, a);
+        cue(rt, bytes, a);
     }
     if starts(line, b"decode_cue|") {
-        paint(line, bytes);
+        paint(rt, line, bytes);
     }
     if starts(line, b"decode_rle_field|") {
-        field(line, bytes, a, b);
+        field(rt, line, bytes, a, b);
     }
     if starts(line, b"parse_chg_colcon_payload|") {
-        bands(bytes);
+        bands(rt, bytes);
     }
 }
 
-fn with_bytes(line: &[u8], bytes: &[u8], n: usize) {
+fn with_bytes(rt: &impl Print, line: &[u8], bytes: &[u8], n: usize) {
     if n <= bytes.len() {
-        asked(line, &bytes[..n]);
+        asked(rt, line, &bytes[..n]);
     }
 }
 
-fn row(line: &[u8]) {
+fn row(rt: &impl Print, line: &[u8]) {
     let mut bytes = [0; 8192];
     let n = table::stored(line, 3, &mut bytes);
-    say(table::part(line, b'|', 0));
-    say(b"|");
-    say(table::part(line, b'|', 1));
-    with_bytes(line, &bytes, n);
-    say(b"\n");
+    say(rt, table::part(line, b'|', 0));
+    say(rt, b"|");
+    say(rt, table::part(line, b'|', 1));
+    with_bytes(rt, line, &bytes, n);
+    say(rt, b"\n");
 }
 
-// Reads up to the next line end, and answers how many bytes stand before it.
-fn next_line(text: &mut [u8]) -> usize {
+// Reads up to the next line end, and answers how many bytes stand before it. A read that fails is the end of input.
+fn next_line(input: &mut impl Read, text: &mut [u8]) -> usize {
     let mut n = 0;
     while n < text.len() {
         let e = n + 1;
-        if io::read_full(STDIN_FILENO, &mut text[n..e]) == 0 {
+        if input.read(&mut text[n..e]).unwrap_or(0) == 0 {
             return n;
         }
         if text[n] == b'\n' {
@@ -576,21 +595,22 @@ fn next_line(text: &mut [u8]) -> usize {
 }
 
 // The rows up to an empty line or the end of input.
-fn rows(text: &mut [u8]) {
+fn rows(rt: &(impl Input + Print), text: &mut [u8]) {
+    let mut input = rt.reader();
     let mut k: usize = 0;
     while k < 18446744073709551615 {
-        let n = next_line(text);
+        let n = next_line(&mut input, text);
         if n == 0 {
             return;
         }
         if n <= text.len() {
-            row(&text[..n]);
+            row(rt, &text[..n]);
         }
         k += 1;
     }
 }
 
-fn main() {
-    let mut text = io::large_buffer();
-    rows(&mut text);
+fn main(rt: HostRuntime) {
+    let mut text = [0u8; 65536];
+    rows(&rt, &mut text);
 }

@@ -1,5 +1,7 @@
 // A whole unit: its control blocks, the rows of its two fields in the index map, and its bands in the record
 // (docs/FORMAT.md, sections 3 to 5).
+#![tactic(auto)]
+
 ghost use Rattle.std.specs.Prelude.{◌≡◌, ◌≤◌, ◌<◌, ◌-◌, ◌+◌, ◌*◌, List, length};
 ghost use Rattle.spu_model.specs.Claim.{Says, Measures};
 ghost use Rattle.grammar.specs.Control.{Block};

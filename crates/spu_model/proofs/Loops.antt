@@ -31,7 +31,6 @@ use Rattle.rle_model.specs.Answers.{field_counts, field_answer, nothing, listed_
 use Rattle.rle_model.specs.Fields.{fields_at, FieldsDecoded}
 use Rattle.rle_model.specs.declared.Counts.{Counts}
 use Rattle.rle_model.specs.declared.FieldAnswer.{FieldAnswer}
-use Rattle.rle_model.specs.declared.FieldAnswer.TheVariants as FieldAnswer
 use Rattle.rle_model.proofs.Claim.{counts-listed}
 use Rattle.spu_model.specs.Unit.{has_bottom, offsets_of, rows_at, listed_unit, unit_at, unit_in}
 use Rattle.spu_model.specs.Answers.{layout_of, spu_answer, record_given, RowsDecoded, Decoded}

@@ -18,7 +18,6 @@ use Rattle.spu_model.specs.Unit.{has_bottom, rows_at, unit_in, counts_of}
 use Rattle.spu_model.specs.declared.Layout.{Layout}
 use Rattle.spu_model.specs.declared.Record.{Record}
 use Rattle.spu_model.specs.declared.SpuAnswer.{SpuAnswer}
-use Rattle.spu_model.specs.declared.SpuAnswer.TheVariants as SpuAnswer
 
 -- the layout of a unit u whose commands told t (FORMAT 3.7, 3.8)
 abbrev pub layout_of : List ℕ → Told → Layout

@@ -9,7 +9,6 @@ use Rattle.grammar.specs.Picture.{ListedUnit, IsUnit}
 use Rattle.control_model.specs.declared.Spu.{Spu}
 use Rattle.spu_model.specs.declared.Record.{Record}
 use Rattle.spu_model.specs.declared.SpuAnswer.{SpuAnswer}
-use Rattle.spu_model.specs.declared.SpuAnswer.TheVariants as SpuAnswer
 
 -- a map of n pixels holds what is listed
 abbrev pub LongEnough : ListedUnit → ℕ → Type 0

@@ -1,8 +1,10 @@
 // A whole unit without its functions: its answers, its definitions, their laws and the claim.
+#![tactic(auto)]
+
 use control_model::Spu;
 
 // The record of a unit with its bands in it.
-#[derive(Drop)]
+#[derive(Clone, Copy)]
 pub struct Record {
     // The number of the refusal; 0 where there is none, and all else is 0 beside one.
     pub refused: u8,
@@ -12,7 +14,7 @@ pub struct Record {
 }
 
 // What a unit gives where nothing is stored.
-#[derive(Drop)]
+#[derive(Clone, Copy)]
 pub enum SpuAnswer {
     // Its record without the bands.
     Shows(Spu),
@@ -21,7 +23,7 @@ pub enum SpuAnswer {
 }
 
 // The size of a picture, and where its fields stand in the unit.
-#[derive(Drop)]
+#[derive(Clone, Copy)]
 pub struct Layout {
     pub width: usize,
     pub height: usize,

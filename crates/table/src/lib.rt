@@ -1,5 +1,7 @@
 // Tables of rows as text, for the programs that run rows: the parts of a text between marks, and the number or the bytes that a part
 // writes. A byte is written as itself, or as a backslash and two hexadecimal digits.
+#![tactic(auto)]
+
 ghost use Rattle.std.specs.Prelude.{◌≡◌, ◌+◌, ◌*◌, ◌<◌, length, set};
 ghost use Rattle.table.specs.Table.{part_at, number_of, given_at, hex_digit, Written, Stored};
 
@@ -8,7 +10,7 @@ use idx_numbers_model::Number;
 use outcome::lesser;
 
 // A byte that a text writes, and the place after what writes it.
-#[derive(Drop)]
+#[derive(Clone, Copy)]
 struct Item {
     byte: u8,
     next: usize,

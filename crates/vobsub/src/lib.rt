@@ -1,5 +1,7 @@
 // The one call, from index text, file, cue number and stream to a cue's canvas, with painting inside it
 // (docs/FORMAT.md, section 6).
+#![tactic(auto)]
+
 ghost use Rattle.std.specs.Prelude.{◌≡◌, List, [], ◌∷◌, ◌+◌, ◌*◌, ◌≤◌, ◌<◌, min, length};
 ghost use Rattle.std.proofs.lemmas.List.Edits.{sets};
 ghost use Rattle.outcome.specs.Outcome.{ok};

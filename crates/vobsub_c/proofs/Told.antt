@@ -2,7 +2,7 @@
 -- listed of it. Assumes nothing.
 use Prim.Native.Nat.{ℕ, ◌≤◌, ◌<◌}
 use native.Mathlib.Omega.{arith}
-use mathlib.Core.Path.{◌≡◌, refl, sym, ap, ◌∙◌, subst}
+use mathlib.Core.Path.{◌≡◌, refl, ap, ◌∙◌, subst}
 use mathlib.Core.Bool.{cond}
 use mathlib.Core.Logic.{⊎_elim}
 use mathlib.Core.List.{List, [], ◌∷◌}
@@ -15,7 +15,6 @@ use Rattle.grammar.specs.Record.{Told}
 use Rattle.grammar.proofs.Unique.{bands-unique}
 use Rattle.bands_model.specs.Claim.{PayloadBands, TooMany, Says}
 use Rattle.bands_model.specs.declared.BandAnswer.{BandAnswer}
-use Rattle.bands_model.specs.declared.BandAnswer.TheVariants as BandAnswer
 use Rattle.control_model.specs.declared.Spu.{Spu}
 use Rattle.spu_model.specs.Claim.{Recorded}
 use Rattle.grammar.specs.Reading.{Wanted, Reading, IsReading}

@@ -11,7 +11,6 @@ use Rattle.grammar.specs.Picture.{ListedUnit, IsUnit}
 use Rattle.bands_model.specs.Answers.{count_of, stored, array_after}
 use Rattle.bands_model.specs.Claim.{PayloadBands, TooMany}
 use Rattle.bands_model.specs.declared.BandAnswer.{BandAnswer}
-use Rattle.bands_model.specs.declared.BandAnswer.TheVariants as BandAnswer
 use Rattle.grammar.specs.Index.{ListedText, IsText}
 use Rattle.grammar.specs.IndexCues.{Cue, cues_of, cue_at, palette_of, has_palette, display_size, duration_of}
 use Rattle.grammar.specs.Packets.{Packet, stream_id}
@@ -20,12 +19,10 @@ use Rattle.ps_model.specs.OnePacket.{body_at}
 use Rattle.ps_model.specs.Unit.{stream_unit}
 use Rattle.ps_model.specs.Answers.{unit_given, unit_stored}
 use Rattle.ps_model.specs.declared.UnitAnswer.{UnitAnswer}
-use Rattle.ps_model.specs.declared.UnitAnswer.TheVariants as UnitAnswer
 use Rattle.rle_model.specs.Field.{decoded, paint_field}
 use Rattle.rle_model.specs.Answers.{field_answer}
 use Rattle.rle_model.specs.declared.Counts.{Counts}
 use Rattle.rle_model.specs.declared.FieldAnswer.{FieldAnswer}
-use Rattle.rle_model.specs.declared.FieldAnswer.TheVariants as FieldAnswer
 use Rattle.idx_model.specs.Text.{idx_of}
 use Rattle.idx_model.specs.Answers.{idx_with, idx_answer, starts_of, positions_of, or_zero, pick_of, cue_answer}
 use Rattle.idx_model.specs.declared.IdxAnswer.{IdxAnswer}
@@ -34,7 +31,6 @@ use Rattle.demo_model.specs.Unit.{demo_at}
 use Rattle.demo_model.specs.Answers.{demo_given}
 use Rattle.demo_model.specs.Claim.{RoundTrip}
 use Rattle.demo_model.specs.declared.DemoAnswer.{DemoAnswer}
-use Rattle.demo_model.specs.declared.DemoAnswer.TheVariants as DemoAnswer
 use Rattle.spu_model.specs.Unit.{unit_in}
 use Rattle.spu_model.specs.Answers.{record_given, unit_map}
 use Rattle.spu_model.specs.Claim.{LongEnough}
@@ -46,7 +42,6 @@ use Rattle.vobsub_model.specs.Call.{Lent, found_for, reading_in}
 use Rattle.vobsub_model.specs.Answers.{canvas_answer, scratch_of, pixels_of, painted_of}
 use Rattle.vobsub_model.specs.Claim.{Room, Exactly}
 use Rattle.vobsub_model.specs.declared.CanvasAnswer.{CanvasAnswer}
-use Rattle.vobsub_model.specs.declared.CanvasAnswer.TheVariants as CanvasAnswer
 use Rattle.vobsub_numbers.specs.Numbers.{spu_numbers, idx_numbers, cue_numbers, shown_numbers, shown_times}
 
 -- the refusal of an answer, 0 where there is none

@@ -1,5 +1,7 @@
-// The functions exported for C and Rust, thin over those of the layers: an answer is its refusal, 0 where there is none, and its value
-// goes where the caller says, which is as found on a refusal.
+// The functions that `vobsub_c_c` exports for C and Rust, thin over those of the layers: an answer is its refusal, 0 where there is none, and its
+// value goes where the caller says, which is as found on a refusal.
+#![tactic(auto)]
+
 ghost use Rattle.grammar.specs.Reading.{wanted};
 ghost use Rattle.vobsub_model.specs.Call.{lent};
 ghost use Rattle.vobsub_c.specs.Answers.{BandsGiven, UnitExtracted, UnitUndisturbed, FieldDecoded, BodyFound, UnitDecoded, UnitWritten, IndexGiven, CueGiven, CueDecoded, CueUndisturbed};
@@ -16,8 +18,7 @@ use vobsub_numbers::{
 
 // The bands in a payload, as words with 0 after them, and how many words they take.
 // Ruled out: a count set on a refusal; an array written on a refusal.
-#[unsafe(no_mangle)]
-pub extern "C" fn vobsub_parse_chg_colcon_payload(
+pub fn vobsub_parse_chg_colcon_payload(
     payload: &[u8],
     bands: &mut [u16; 1536],
     count: &mut usize,
@@ -36,8 +37,7 @@ pub extern "C" fn vobsub_parse_chg_colcon_payload(
 // The unit of a stream at a position of the file, its length, and whether it is in the front of scratch (1) or in the
 // file (0).
 // Ruled out: a length set on a refusal; a unit in scratch that is said to be in the file.
-#[unsafe(no_mangle)]
-pub extern "C" fn vobsub_extract_spu(
+pub fn vobsub_extract_spu(
     file: &[u8],
     position: usize,
     stream: usize,
@@ -65,8 +65,7 @@ pub extern "C" fn vobsub_extract_spu(
 
 // Where the body of a PES starts.
 // Ruled out: a place set where there is no body; the body's length for its place.
-#[unsafe(no_mangle)]
-pub extern "C" fn vobsub_parse_pes_body(pes: &[u8], body: &mut usize) -> u8
+pub fn vobsub_parse_pes_body(pes: &[u8], body: &mut usize) -> u8
     ensures { BodyFound pes.now body.old result body.new }
 {
     let mut found = false;
@@ -81,8 +80,7 @@ pub extern "C" fn vobsub_parse_pes_body(pes: &[u8], body: &mut usize) -> u8
 // The rows start_row, start_row + 2, .. of a map of that width and height, how many codes they have, and how many of
 // them are clipped.
 // Ruled out: a number set on a refusal; the numbers in each other's place; rows of the other field painted.
-#[unsafe(no_mangle)]
-pub extern "C" fn vobsub_decode_rle_field(
+pub fn vobsub_decode_rle_field(
     field: &[u8],
     width: usize,
     height: usize,
@@ -106,8 +104,7 @@ pub extern "C" fn vobsub_decode_rle_field(
 // A unit's picture as colour numbers in the front of `pixels`, its bands as words with 0 after them, and the numbers of
 // its record.
 // Ruled out: a record stored on a refusal; a unit accepted whose record is left as found.
-#[unsafe(no_mangle)]
-pub extern "C" fn vobsub_parse_and_decode_spu(
+pub fn vobsub_parse_and_decode_spu(
     unit: &[u8],
     pixels: &mut [u8],
     bands: &mut [u16; 1536],
@@ -127,8 +124,7 @@ pub extern "C" fn vobsub_parse_and_decode_spu(
 
 // A picture as a unit in the front of `out`, and the unit's length.
 // Ruled out: a length set on a refusal; bytes behind the unit changed.
-#[unsafe(no_mangle)]
-pub extern "C" fn vobsub_build_demo_spu(
+pub fn vobsub_build_demo_spu(
     width: usize,
     height: usize,
     indices: &[u8],
@@ -148,8 +144,7 @@ pub extern "C" fn vobsub_build_demo_spu(
 
 // Size, palette and cues of an index text: start and position of each cue go to the front of the lent buffers.
 // Ruled out: a palette or a size stored on a refusal; a text accepted whose palette is left as found.
-#[unsafe(no_mangle)]
-pub extern "C" fn vobsub_parse_idx(
+pub fn vobsub_parse_idx(
     text: &[u8],
     starts: &mut [i64],
     positions: &mut [u32],
@@ -170,8 +165,7 @@ pub extern "C" fn vobsub_parse_idx(
 
 // One cue of an index text: its start, its other numbers, and the text's palette.
 // Ruled out: a start set on a refusal; the duration for the start.
-#[unsafe(no_mangle)]
-pub extern "C" fn vobsub_pick_cue(
+pub fn vobsub_pick_cue(
     text: &[u8],
     cue: usize,
     start: &mut i64,
@@ -197,8 +191,7 @@ pub extern "C" fn vobsub_pick_cue(
 // front of `pixels`, its unit in the front of `scratch` where packets hold it, its start with its show and hide times,
 // and its other numbers.
 // Ruled out: times or numbers set on a refusal; a canvas whose times are left as found.
-#[unsafe(no_mangle)]
-pub extern "C" fn vobsub_decode_cue(
+pub fn vobsub_decode_cue(
     text: &[u8],
     file: &[u8],
     cue: usize,

@@ -31,7 +31,6 @@ use Rattle.idx_model.proofs.Refusals.{text-not-11}
 use Rattle.ps_model.specs.Unit.{unit_at, stream_unit}
 use Rattle.ps_model.specs.Answers.{form_stored, unit_given, unit_stored, unit_part, Extracted}
 use Rattle.ps_model.specs.declared.UnitAnswer.{UnitAnswer}
-use Rattle.ps_model.specs.declared.UnitAnswer.TheVariants as UnitAnswer
 use Rattle.ps_model.proofs.Grammar.{form_iff}
 use Rattle.ps_model.proofs.Claim.{stream_sound, unit-there}
 use Rattle.spu_model.specs.Answers.{unit_map}
@@ -43,7 +42,6 @@ use Rattle.vobsub_model.proofs.Claim.{claim}
 use Rattle.vobsub_model.proofs.Streams.{undisturbed}
 use Rattle.vobsub_model.specs.declared.Shown.{Shown}
 use Rattle.vobsub_model.specs.declared.CanvasAnswer.{CanvasAnswer}
-use Rattle.vobsub_model.specs.declared.CanvasAnswer.TheVariants as CanvasAnswer
 use Rattle.spu_model.specs.Unit.{counts_of}
 
 -- where the cue is there, its unit is that of the stream

@@ -38,7 +38,6 @@ use Rattle.vobsub_model.specs.Answers.{shown_given, canvas_answer, scratch_of, p
 use Rattle.vobsub_model.specs.Claim.{Gives, Room, Equal, Exactly}
 use Rattle.vobsub_model.specs.declared.Shown.{Shown}
 use Rattle.vobsub_model.specs.declared.CanvasAnswer.{CanvasAnswer}
-use Rattle.vobsub_model.specs.declared.CanvasAnswer.TheVariants as CanvasAnswer
 
 -- a unit is found within lent lengths exactly where it is found and they are long enough
 canvas_sound : (u : List ℕ) (n k : ℕ) (l : ListedUnit) → canvas_in u n k ≡ ok l

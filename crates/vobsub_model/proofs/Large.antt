@@ -31,7 +31,6 @@ use Rattle.vobsub_model.specs.Call.{Lent, Found, found, found_for, canvas_in, re
 use Rattle.vobsub_model.specs.Answers.{canvas_answer, scratch_of, pixels_of, painted_of, CuePainted}
 use Rattle.vobsub_model.specs.Claim.{Gives}
 use Rattle.vobsub_model.specs.declared.CanvasAnswer.{CanvasAnswer}
-use Rattle.vobsub_model.specs.declared.CanvasAnswer.TheVariants as CanvasAnswer
 
 -- any number but 41, as after a text that is listed
 abbrev Not41 : ℕ → Type 0

@@ -21,7 +21,6 @@ use Rattle.vobsub_model.specs.Call.{Lent, listed_in, reading_in}
 use Rattle.vobsub_model.specs.Answers.{canvas_answer, CuePainted}
 use Rattle.vobsub_model.specs.Claim.{Room}
 use Rattle.vobsub_model.specs.declared.CanvasAnswer.{CanvasAnswer}
-use Rattle.vobsub_model.specs.declared.CanvasAnswer.TheVariants as CanvasAnswer
 use Rattle.vobsub_model.proofs.Claim.{listed-complete}
 
 module _ (text file : List ℕ) (q : Wanted) (b : Lent) (r : CanvasAnswer) (b' : Lent)

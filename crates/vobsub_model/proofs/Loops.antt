@@ -35,13 +35,11 @@ use Rattle.vobsub_model.specs.Call.{canvas_in, timed_in}
 use Rattle.vobsub_model.specs.Answers.{times_told, shown_of, late_refusal, UnitPainted}
 use Rattle.vobsub_model.specs.declared.Shown.{Shown}
 use Rattle.vobsub_model.specs.declared.CanvasAnswer.{CanvasAnswer}
-use Rattle.vobsub_model.specs.declared.CanvasAnswer.TheVariants as CanvasAnswer
 use Rattle.idx_model.specs.declared.CueAnswer.{CueAnswer}
 use Rattle.vobsub_model.proofs.Listed.{told_look_lem, stored-canvas}
 use Rattle.rle_model.specs.Answers.{nothing, field_answer, listed_counts}
 use Rattle.rle_model.specs.declared.Counts.{Counts}
 use Rattle.rle_model.specs.declared.FieldAnswer.{FieldAnswer}
-use Rattle.rle_model.specs.declared.FieldAnswer.TheVariants as FieldAnswer
 
 -- the sizes that a record gives
 pub area-is : (s : Spu) (t : Told) → s ≡ spu_of t nothing → (s.x2 + 1 - s.x1) * (s.y2 + 1 - s.y1) ≡ width t * height t

@@ -30,7 +30,6 @@ use Rattle.spu_model.proofs.Many.{Other, control-is}
 use Rattle.vobsub_model.specs.Call.{Lent, found, found_for, canvas_in, reading, listed_in, reading_in}
 use Rattle.vobsub_model.specs.Answers.{canvas_answer, CuePainted}
 use Rattle.vobsub_model.specs.declared.CanvasAnswer.{CanvasAnswer}
-use Rattle.vobsub_model.specs.declared.CanvasAnswer.TheVariants as CanvasAnswer
 
 module _ (text file : List ℕ) (q : Wanted) (b : Lent) (r : CanvasAnswer) (b' : Lent) (d : CuePainted text file q b r b')
     (t : ListedText) (c : Cue) (m : Form) (bs : List Block)

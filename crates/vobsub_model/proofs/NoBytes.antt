@@ -16,7 +16,6 @@ use Rattle.vobsub_model.specs.Answers.{CuePainted}
 use Rattle.vobsub_model.specs.Claim.{Gives}
 use Rattle.vobsub_model.specs.declared.Shown.{Shown}
 use Rattle.vobsub_model.specs.declared.CanvasAnswer.{CanvasAnswer}
-use Rattle.vobsub_model.specs.declared.CanvasAnswer.TheVariants as CanvasAnswer
 use Rattle.vobsub_model.proofs.Claim.{claim}
 
 -- a canvas is that of cue 0 and of a unit that the grammar lists at the file's front, in greys, from time 0 on

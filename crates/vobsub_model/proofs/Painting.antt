@@ -17,7 +17,6 @@ use Rattle.grammar.specs.Look.{Look}
 use Rattle.grammar.specs.Canvas.{nibble_of, coloured, pixel, or_own, line_bytes}
 use Rattle.bands_model.specs.Look.{told, look_words, spans_line}
 use Rattle.bands_model.specs.declared.LookAnswer.{LookAnswer}
-use Rattle.bands_model.specs.declared.LookAnswer.TheVariants as LookAnswer
 use Rattle.bands_model.proofs.Look.{look-unspanned}
 use Rattle.vobsub_model.specs.Paint.{look_is, word_look, four_colours, table_line, map_canvas}
 

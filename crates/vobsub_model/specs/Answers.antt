@@ -21,7 +21,6 @@ use Rattle.spu_model.specs.Answers.{unit_map}
 use Rattle.vobsub_model.specs.Call.{Lent, Found, found_for, timed_in, reading_in}
 use Rattle.vobsub_model.specs.declared.Shown.{Shown}
 use Rattle.vobsub_model.specs.declared.CanvasAnswer.{CanvasAnswer}
-use Rattle.vobsub_model.specs.declared.CanvasAnswer.TheVariants as CanvasAnswer
 
 -- ---- A unit
 

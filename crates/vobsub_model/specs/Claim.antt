@@ -14,7 +14,6 @@ use Rattle.vobsub_model.specs.Call.{Lent}
 use Rattle.vobsub_model.specs.Answers.{CuePainted}
 use Rattle.vobsub_model.specs.declared.Shown.{Shown}
 use Rattle.vobsub_model.specs.declared.CanvasAnswer.{CanvasAnswer}
-use Rattle.vobsub_model.specs.declared.CanvasAnswer.TheVariants as CanvasAnswer
 
 -- the answer is a canvas
 abbrev pub Gives : CanvasAnswer → Type 0

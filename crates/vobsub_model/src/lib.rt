@@ -1,23 +1,24 @@
 // The one call without its functions: what it answers, its definitions and those of painting, their laws and the claim on whole files.
+#![tactic(auto)]
 
 use clock_model::{Micros, Ticks};
 
 // Four selectors and four alphas, colour 0 in the top nibble of each.
-#[derive(Drop)]
+#[derive(Clone, Copy)]
 pub struct Four {
     pub selectors: u16,
     pub alphas: u16,
 }
 
 // What a caller asks for.
-#[derive(Drop)]
+#[derive(Clone, Copy)]
 pub struct Request {
     pub cue: usize,
     pub stream: usize,
 }
 
 // What is shown of a cue.
-#[derive(Drop)]
+#[derive(Clone, Copy)]
 pub struct Shown {
     pub start: Micros,
     // Whether another cue follows, and the time up to it; 0 where none does.
@@ -44,7 +45,7 @@ pub struct Shown {
 }
 
 // What a cue gives.
-#[derive(Drop)]
+#[derive(Clone, Copy)]
 pub enum CanvasAnswer {
     // It is painted.
     Paints(Shown),

@@ -1,4 +1,6 @@
 // Numbers of records and answers put into the order of include/vobsub.h.
+#![tactic(auto)]
+
 ghost use Rattle.std.specs.Prelude.{cond, ◌≡◌};
 ghost use Rattle.clock_model.specs.Answers.{ticks};
 ghost use Rattle.vobsub_numbers.specs.Numbers.{spu_numbers, idx_numbers, cue_numbers, shown_numbers, shown_times};

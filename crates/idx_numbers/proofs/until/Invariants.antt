@@ -1,0 +1,13 @@
+-- `idx_numbers::until` meets its contract: each turn passes eight bytes over. Assumes nothing.
+use mathlib.Core.Path.{◌≡◌}
+use Prim.Native.Nat.{◌≤◌, ◌-◌, ◌+◌}
+use lib.ListN.{length, drop}
+use Rattle.grammar.specs.IndexParts.{unlike}
+use Rattle.idx_numbers_model.specs.Parts.{front}
+use Rattle.idx_numbers.proofs.until.Given as goal
+
+abbrev pub invariant-loop-i : goal.invariant-loop-i
+invariant-loop-i l = (l.i ≤ length l.s) × (length (front (unlike l.sep) l.s) ≡ l.i + length (front (unlike l.sep) (drop l.i l.s)))
+
+abbrev pub decreases-loop-i : goal.decreases-loop-i
+decreases-loop-i l = length l.s - l.i

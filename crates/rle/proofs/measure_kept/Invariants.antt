@@ -1,0 +1,24 @@
+-- `rle::measure_kept` meets its contract: the rows left, counted and kept behind what was counted and kept, are all rows. Assumes nothing.
+use Prim.Native.Nat.{ℕ, ◌<◌}
+use mathlib.Core.Path.{◌≡◌}
+use mathlib.Core.List.{List}
+use lib.ListN.{length}
+use lib.Seq.{sets}
+use Rattle.rle_model.specs.Codes.{field_at, field_read}
+use Rattle.rle_model.specs.Kept.{kept_all}
+use Rattle.rle_model.specs.Answers.{AtMost, field_answer, plus_field, measured}
+use Rattle.rle_model.specs.declared.Counts.{Counts}
+use Rattle.rle.proofs.measure_kept.Given as goal
+
+pub record Inv (field : List ℕ) (width rows : ℕ) (kept₀ kept : List ℕ) (counts : Counts) (pos left : ℕ) : Type 0 where
+  pub wide : 0 < width
+  pub few : AtMost pos counts
+  pub long : length kept ≡ length kept₀
+  pub goes : plus_field counts (field_answer width (field_at field (length field) width left pos)) ≡ measured field width rows
+  pub keeps : sets kept counts.codes (kept_all width (field_read field (length field) width left pos)) ≡ sets kept₀ 0 (kept_all width (field_read field (length field) width rows 0))
+
+abbrev pub invariant-loop-left : goal.invariant-loop-left
+invariant-loop-left l = Inv l.field l.width l.rows l.initial.kept l.kept l.counts l.pos l.left
+
+abbrev pub decreases-loop-left : goal.decreases-loop-left
+decreases-loop-left l = l.left
