@@ -27,21 +27,22 @@ absolute() { # NAME
 
 # ---- What is built with rt
 
-# A crate and those that it stands on, a line each as crates.txt has it, in the order in which rt proves them: level by level.
+# A crate and those that it stands on, each after those, level by level: a line each, with its name, a tab and its line of crates.txt.
 crates_of() { # NAME
     awk -v wanted="$1" '
         function visit(n,    part, k, i) {
             if (n in level) return
             level[n] = 0
-            k = split(deps[n], part, " ")
+            k = split(deps[n], part, /[ \t,]+/)
             for (i = 1; i <= k; i++) if (part[i] in deps) {
                 visit(part[i])
                 if (level[part[i]] >= level[n]) level[n] = level[part[i]] + 1
             }
-            print level[n] " " n ":" deps[n]
+            print level[n] "\t" n "\t" line[n]
         }
-        { sub(/#.*/, ""); i = index($0, ":"); if (!i) next; n = substr($0, 1, i - 1); gsub(/[ \t]/, "", n); deps[n] = substr($0, i + 1) }
-        END { if (wanted in deps) visit(wanted) }' "$root/crates.txt" | sort -s -n -k 1,1 | cut -d ' ' -f 2-
+        { sub(/[ \t]*#.*/, "") }
+        NF > 0 { i = index($0 ":", ":"); split(substr($0, 1, i - 1), word, " "); deps[word[1]] = substr($0, i + 1); line[word[1]] = $0 }
+        END { if (wanted in deps) visit(wanted) }' "$root/crates.txt" | sort -s -n -k 1,1 | cut -f 2-
 }
 
 # The sum over all that is built from: sources, definitions, proofs and lines of crates.txt of a crate and of those that it stands on. A file that
@@ -49,7 +50,7 @@ crates_of() { # NAME
 made_from() { # NAME
     (
         cd -- "$root" && crates_of "$1" || exit
-        crates_of "$1" | while IFS=: read -r crate _; do
+        crates_of "$1" | cut -f 1 | while IFS= read -r crate; do
             find "crates/$crate/src" "crates/$crate/specs" "crates/$crate/proofs" -type f -print0 2> /dev/null
         done | LC_ALL=C sort -z | xargs -0 -r sha256sum
     ) | sha256sum
@@ -69,25 +70,48 @@ is_made() { # NAME FILE
     [ "$sums" = "$(made_from "$1") $(sha256sum < "$2")" ]
 }
 
-# Runs rt with these words, its output in a log, and shows which crate it is at, of how many.
-prove() { # NAME LOG WORDS ..
-    local crates at=1 line rt
-    rt=$(absolute "$(type -P rt)")
-    mapfile -t crates < <(crates_of "$1" | cut -d : -f 1)
-    say "1 of ${#crates[@]}: ${crates[0]-}"
-    (trap - PIPE && cd -- "$root" && exec "$rt" "${@:3}") 2>&1 | tee "$2" | while IFS= read -r line; do
-        case $line in
-        "rt: "*" proved ("* | "rt: "*" NOT PROVED"*)
-            at=$((at + 1))
-            [ "$at" -gt "${#crates[@]}" ] || say "$at of ${#crates[@]}: ${crates[at - 1]}"
-            ;;
-        esac
-    done
-    return "${PIPESTATUS[0]}"
+# Puts what rt made where it is kept, with its record. rt ci moves away what rt left in a crate.
+keep() { # MADE FILE SUM
+    mkdir -p -- "${2%/*}" && rm -f -- "$2.sums" && cp -- "$1" "$2.new" && mv -f -- "$2.new" "$2" && record "$2" "$3"
 }
 
-# Has rt with these words make FILE of the crate NAME, unless it is made already. Where that fails it says why in a line, and returns 1.
-build() { # NAME FILE WORDS ..
+# Proves a crate and those that it stands on, each in its folder over what rt kept there, with `rt lib`, and the last with the word that builds
+# it. What rt said goes to a log, and a line shows which crate it is at, of how many. Where one fails, its name is in `at_fault`.
+at_fault=
+prove() { # NAME LOG WORD
+    local crates at=0 crate word=lib rt
+    rt=$(absolute "$(type -P rt)")
+    mapfile -t crates < <(crates_of "$1" | cut -f 1)
+    : > "$2" || return 1
+    for crate in "${crates[@]}"; do
+        at=$((at + 1))
+        say "$at of ${#crates[@]}: $crate"
+        [ "$at" -lt "${#crates[@]}" ] || word=$3
+        echo "== $crate: rt $word" >> "$2"
+        at_fault=$crate
+        (trap - PIPE XFSZ && cd -- "$root/crates/$crate" && exec "$rt" "$word") < /dev/null >> "$2" 2>&1 || return 1
+    done
+    at_fault=
+}
+
+# Whether a program writes what its file stdout has, run as rt ci runs it: in its folder data, with the lines of its file args.
+writes_its_lines() { # NAME PROGRAM LOG
+    local folder=$root/crates/$1 input=/dev/null wanted=/dev/null words=()
+    [ ! -f "$folder/stdin" ] || input=$folder/stdin
+    [ ! -f "$folder/stdout" ] || wanted=$folder/stdout
+    [ ! -f "$folder/args" ] || mapfile -t words < "$folder/args"
+    echo "== $1: what it writes, and its file stdout" >> "$3"
+    (
+        trap - PIPE XFSZ
+        set -o pipefail
+        cd -- "$folder" && { [ ! -d data ] || cd data; } || exit
+        "$2" "${words[@]}" < "$input" 2>> "$3" | diff - "$wanted" >> "$3"
+    )
+}
+
+# Has rt make FILE of the crate NAME with this word, which leaves it as MADE in the crate's folder, unless it is made already. Where that fails it
+# says why in a line, and returns 1.
+build() { # NAME FILE WORD MADE
     local name=${2#"$root/"}
     is_made "$1" "$2" && return
     if ! type -P rt > /dev/null; then
@@ -98,11 +122,15 @@ build() { # NAME FILE WORDS ..
         say "\`rt\` does not run, and the Rattle kit is needed to prove and build $name"
         return 1
     fi
+    if [ -z "$(crates_of "$1")" ]; then
+        say "$name is built from the crate $1, and crates.txt has no such crate"
+        return 1
+    fi
     if ! { mkdir -p -- "$root/target" && : >> "$root/target/lock"; } 2> /dev/null; then
         say "$name is not there for this user as it would be built now, and $root/target cannot be written to build it"
         return 1
     fi
-    # one build at a time; what rt started holds the lock too, so that the next one also waits for what an interrupt left running
+    # one build at a time; rt holds the lock too, and ends what it started when it ends
     (
         if ! flock -n 9; then
             say "another build is going on, and this one waits for it"
@@ -111,28 +139,33 @@ build() { # NAME FILE WORDS ..
         is_made "$1" "$2" || build_alone "$@"
     ) 9>> "$root/target/lock"
 }
-build_alone() { # NAME FILE WORDS ..
-    local from crate name=${2#"$root/"} log=$root/target/$1.log
+build_alone() { # NAME FILE WORD MADE
+    local from name=${2#"$root/"} log=$root/target/$1.log made=$root/crates/$1/$4
     from=$(made_from "$1")
-    # rt goes by its stamps: it does not see that a library or a program is gone, or is another
-    rm -f -- "$2" "$2.sums" "$root/target/stamp/$1"
-    crates_of "$1" | while IFS=: read -r crate _; do
-        [ -e "$root/target/rlib/$crate.rlib" ] || rm -f -- "$root/target/stamp/$crate"
-    done
+    rm -f -- "$2" "$2.sums"
     say "proving and building $name first; from nothing this takes some minutes"
-    if ! prove "$1" "$log" "${@:3}" || [ ! -f "$2" ]; then
-        rm -f -- "$2"
-        crate=$(sed -n 's/^rt: FAILED: *//p' "$log")
-        say "$name is not built${crate:+: rt failed on $crate}; $(shown "$log") has what rt said"
+    if ! prove "$1" "$log" "$3" || [ ! -f "$made" ]; then
+        say "$name is not built${at_fault:+: rt failed on $at_fault}; $(shown "$log") has what rt said"
+        return 1
+    fi
+    if [ "$3" = run ] && ! writes_its_lines "$1" "$made" "$log"; then
+        say "$name is not built: it does not write what crates/$1/stdout has; $(shown "$log") has how they differ"
         return 1
     fi
     if [ "$(made_from "$1")" != "$from" ]; then
-        rm -f -- "$2"
         say "a file changed while $name was built; run this again"
         return 1
     fi
-    record "$2" "$from"
+    keep "$made" "$2" "$from" || {
+        say "$name cannot be written"
+        return 1
+    }
 }
+
+# The two that are built: the list program, and the library for C and Rust.
+list_program=$root/target/bin/list
+build_list() { build list "$list_program" run out/list; }
+build_library() { build vobsub_c_c "$root/target/staticlib/libvobsub_c.a" lib out/libvobsub_c_c.a; }
 
 # ---- What is run over the library, and beside the original
 
