@@ -33,7 +33,7 @@ use Rattle.idx_numbers_model.specs.Parts.{front, rest, all, shorn, trim, split, 
 use Rattle.clock_model.specs.Sums.{checked}
 use Rattle.idx_numbers_model.specs.Numbers.{unsigned, signed, bare}
 use Rattle.grammar.specs.IndexCues.{cues_of_lines, cue_at, duration_of}
-use Rattle.idx_lines_model.specs.Lines.{steps, first_of, last_of, parts_at}
+use Rattle.idx_lines_model.specs.Lines.{steps, first_such, last_such, parts_at}
 use Rattle.idx_model.specs.Text.{lines_in, text_in, idx_in}
 use Rattle.listing_model.specs.Lines.{digits_in, decimal, shown_line, refused_line, cues_line, index_line, file_line}
 use Rattle.clock_model.specs.Clock.{times_stay}
@@ -62,25 +62,25 @@ unfolding bytes code reader field fields unit found held unit_for written upper 
 bytes-hold = refl
 
 lines-hold : got_of lines ≡ want_of lines
-unfolding lines title_lines cue_lines front rest shorn trim strip checked cues_of_lines cue_at duration_of first_of last_of parts_at TextLines.line_of lines_in text_in idx_in digits_in decimal shown_line refused_line cues_line file_line unit_for shown_for code field fields unit found written upper evens runs cut marks_of digits nibbles_of packed picture_rows field_nibbles all_colours picture_ok sized_unit demo_at demo.unit_of position start numeral start_of all split unsigned signed bare TextLines.fields steps time_at joined unit_of leading header1_at header_at body_at kept_at pack_at private_at kind_at packet_at packets_at is_bare form_at PsUnit.unit_at stream_unit list_fuel list_from word nibble nibbles paints overshoots after_codes align row_pixels codes_in clipped_row clipped_in index_map top_end code_from code_at row_at field_at rows_from paint_field decoded row_counts field_counts weave lower_at fields_at plain_at change_at order_at command_at commands_at block_at blocks_at head_fits chain_at control_at few_at spu_of entry_words band_words rows_at unit_at told commands_of commands_in first_delay last_delay last_numbers stands all_bands
+unfolding lines title_lines cue_lines front rest shorn trim strip checked cues_of_lines cue_at duration_of first_such last_such parts_at TextLines.line_of lines_in text_in idx_in digits_in decimal shown_line refused_line cues_line file_line unit_for shown_for code field fields unit found written upper evens runs cut marks_of digits nibbles_of packed picture_rows field_nibbles all_colours picture_ok sized_unit demo_at demo.unit_of position start numeral start_of all split unsigned signed bare TextLines.fields steps time_at joined unit_of leading header1_at header_at body_at kept_at pack_at private_at kind_at packet_at packets_at is_bare form_at PsUnit.unit_at stream_unit list_fuel list_from word nibble nibbles paints overshoots after_codes align row_pixels codes_in clipped_row clipped_in index_map top_end code_from code_at row_at field_at rows_from paint_field decoded row_counts field_counts weave lower_at fields_at plain_at change_at order_at command_at commands_at block_at blocks_at head_fits chain_at control_at few_at spu_of entry_words band_words rows_at unit_at told commands_of commands_in first_delay last_delay last_numbers stands all_bands
 lines-hold = refl
 
 -- a time at the end of its range, and one past it
 stand-holds : hours_stand.got ≡ hours_stand.want
-unfolding hours_stand stamped front rest shorn trim strip checked cues_of_lines cue_at duration_of first_of last_of parts_at TextLines.line_of lines_in text_in idx_in numeral start_of all split unsigned signed bare TextLines.fields steps time_at
+unfolding hours_stand stamped front rest shorn trim strip checked cues_of_lines cue_at duration_of first_such last_such parts_at TextLines.line_of lines_in text_in idx_in numeral start_of all split unsigned signed bare TextLines.fields steps time_at
 stand-holds = refl
 
 leave_holds : hours_leave.got ≡ hours_leave.want
-unfolding hours_leave stamped front rest shorn trim strip checked cues_of_lines cue_at duration_of first_of last_of parts_at TextLines.line_of lines_in text_in idx_in numeral start_of all split unsigned signed bare TextLines.fields steps time_at
+unfolding hours_leave stamped front rest shorn trim strip checked cues_of_lines cue_at duration_of first_such last_such parts_at TextLines.line_of lines_in text_in idx_in numeral start_of all split unsigned signed bare TextLines.fields steps time_at
 leave_holds = refl
 
 -- positions at the end of what is stored, and past it
 places-hold : got_of places ≡ want_of places
-unfolding places placed front rest shorn trim strip checked cues_of_lines cue_at duration_of first_of last_of parts_at TextLines.line_of lines_in text_in idx_in numeral start_of all split unsigned signed bare TextLines.fields steps time_at
+unfolding places placed front rest shorn trim strip checked cues_of_lines cue_at duration_of first_such last_such parts_at TextLines.line_of lines_in text_in idx_in numeral start_of all split unsigned signed bare TextLines.fields steps time_at
 places-hold = refl
 
 cues_41 : cues_in text_41 ≡ refuse large_position
-unfolding text_41 front rest shorn trim strip checked cues_of_lines cue_at duration_of first_of last_of parts_at TextLines.line_of lines_in text_in idx_in numeral start_of all split unsigned signed bare TextLines.fields steps time_at
+unfolding text_41 front rest shorn trim strip checked cues_of_lines cue_at duration_of first_such last_such parts_at TextLines.line_of lines_in text_in idx_in numeral start_of all split unsigned signed bare TextLines.fields steps time_at
 cues_41 = refl
 
 readable-41 : readable true text_41 [] ≡ true
@@ -97,16 +97,16 @@ title_41-holds = rw (readable-41, cues_41) line-41
 
 -- the title of 2 by 2: its cues, what is shown of its unit from two starts on, and its line
 small-cues : cues_in small_text ≡ ok (cue_from 1000000 ∷ [])
-unfolding small_text front rest shorn trim strip checked cues_of_lines cue_at duration_of first_of last_of parts_at TextLines.line_of lines_in text_in idx_in digits_in decimal shown_line refused_line cues_line file_line unit_for shown_for code field fields unit found written upper evens runs cut marks_of digits nibbles_of packed picture_rows field_nibbles all_colours picture_ok sized_unit demo_at demo.unit_of position start numeral start_of all split unsigned signed bare TextLines.fields steps time_at joined unit_of leading header1_at header_at body_at kept_at pack_at private_at kind_at packet_at packets_at is_bare form_at PsUnit.unit_at stream_unit list_fuel list_from word nibble nibbles paints overshoots after_codes align row_pixels codes_in clipped_row clipped_in index_map top_end code_from code_at row_at field_at rows_from paint_field decoded row_counts field_counts weave lower_at fields_at plain_at change_at order_at command_at commands_at block_at blocks_at head_fits chain_at control_at few_at spu_of entry_words band_words rows_at unit_at told commands_of commands_in first_delay last_delay last_numbers stands all_bands
+unfolding small_text front rest shorn trim strip checked cues_of_lines cue_at duration_of first_such last_such parts_at TextLines.line_of lines_in text_in idx_in digits_in decimal shown_line refused_line cues_line file_line unit_for shown_for code field fields unit found written upper evens runs cut marks_of digits nibbles_of packed picture_rows field_nibbles all_colours picture_ok sized_unit demo_at demo.unit_of position start numeral start_of all split unsigned signed bare TextLines.fields steps time_at joined unit_of leading header1_at header_at body_at kept_at pack_at private_at kind_at packet_at packets_at is_bare form_at PsUnit.unit_at stream_unit list_fuel list_from word nibble nibbles paints overshoots after_codes align row_pixels codes_in clipped_row clipped_in index_map top_end code_from code_at row_at field_at rows_from paint_field decoded row_counts field_counts weave lower_at fields_at plain_at change_at order_at command_at commands_at block_at blocks_at head_fits chain_at control_at few_at spu_of entry_words band_words rows_at unit_at told commands_of commands_in first_delay last_delay last_numbers stands all_bands
 small-cues = refl
 
 unit-shows : (shown_for (cue_from 1000000 ∷ []) small_file 0 ≡ ok (shown_from 1000000))
     × (shown_for (cue_from 0 ∷ []) small_file 0 ≡ ok (shown_from 0))
-unfolding small_file front rest shorn trim strip checked cues_of_lines cue_at duration_of first_of last_of parts_at TextLines.line_of lines_in text_in idx_in digits_in decimal shown_line refused_line cues_line file_line unit_for timed_for times_stay shown_for code field fields unit found written upper evens runs cut marks_of digits nibbles_of packed picture_rows field_nibbles all_colours picture_ok sized_unit demo_at demo.unit_of position start numeral start_of all split unsigned signed bare TextLines.fields steps time_at joined unit_of leading header1_at header_at body_at kept_at pack_at private_at kind_at packet_at packets_at is_bare form_at PsUnit.unit_at stream_unit list_fuel list_from word nibble nibbles paints overshoots after_codes align row_pixels codes_in clipped_row clipped_in index_map top_end code_from code_at row_at field_at rows_from paint_field decoded row_counts field_counts weave lower_at fields_at plain_at change_at order_at command_at commands_at block_at blocks_at head_fits chain_at control_at few_at spu_of entry_words band_words rows_at unit_at told commands_of commands_in first_delay last_delay last_numbers stands all_bands
+unfolding small_file front rest shorn trim strip checked cues_of_lines cue_at duration_of first_such last_such parts_at TextLines.line_of lines_in text_in idx_in digits_in decimal shown_line refused_line cues_line file_line unit_for timed_for times_stay shown_for code field fields unit found written upper evens runs cut marks_of digits nibbles_of packed picture_rows field_nibbles all_colours picture_ok sized_unit demo_at demo.unit_of position start numeral start_of all split unsigned signed bare TextLines.fields steps time_at joined unit_of leading header1_at header_at body_at kept_at pack_at private_at kind_at packet_at packets_at is_bare form_at PsUnit.unit_at stream_unit list_fuel list_from word nibble nibbles paints overshoots after_codes align row_pixels codes_in clipped_row clipped_in index_map top_end code_from code_at row_at field_at rows_from paint_field decoded row_counts field_counts weave lower_at fields_at plain_at change_at order_at command_at commands_at block_at blocks_at head_fits chain_at control_at few_at spu_of entry_words band_words rows_at unit_at told commands_of commands_in first_delay last_delay last_numbers stands all_bands
 unit-shows = (refl, refl)
 
 small_line : (cues_line 1 ++ (shown_line 0 (shown_from 1000000) ++ [])) ≡ small_title.want
-unfolding small_title front rest shorn trim strip checked cues_of_lines cue_at duration_of first_of last_of parts_at TextLines.line_of lines_in text_in idx_in digits_in decimal shown_line refused_line cues_line file_line unit_for shown_for code field fields unit found written upper evens runs cut marks_of digits nibbles_of packed picture_rows field_nibbles all_colours picture_ok sized_unit demo_at demo.unit_of position start numeral start_of all split unsigned signed bare TextLines.fields steps time_at joined unit_of leading header1_at header_at body_at kept_at pack_at private_at kind_at packet_at packets_at is_bare form_at PsUnit.unit_at stream_unit list_fuel list_from word nibble nibbles paints overshoots after_codes align row_pixels codes_in clipped_row clipped_in index_map top_end code_from code_at row_at field_at rows_from paint_field decoded row_counts field_counts weave lower_at fields_at plain_at change_at order_at command_at commands_at block_at blocks_at head_fits chain_at control_at few_at spu_of entry_words band_words rows_at unit_at told commands_of commands_in first_delay last_delay last_numbers stands all_bands
+unfolding small_title front rest shorn trim strip checked cues_of_lines cue_at duration_of first_such last_such parts_at TextLines.line_of lines_in text_in idx_in digits_in decimal shown_line refused_line cues_line file_line unit_for shown_for code field fields unit found written upper evens runs cut marks_of digits nibbles_of packed picture_rows field_nibbles all_colours picture_ok sized_unit demo_at demo.unit_of position start numeral start_of all split unsigned signed bare TextLines.fields steps time_at joined unit_of leading header1_at header_at body_at kept_at pack_at private_at kind_at packet_at packets_at is_bare form_at PsUnit.unit_at stream_unit list_fuel list_from word nibble nibbles paints overshoots after_codes align row_pixels codes_in clipped_row clipped_in index_map top_end code_from code_at row_at field_at rows_from paint_field decoded row_counts field_counts weave lower_at fields_at plain_at change_at order_at command_at commands_at block_at blocks_at head_fits chain_at control_at few_at spu_of entry_words band_words rows_at unit_at told commands_of commands_in first_delay last_delay last_numbers stands all_bands
 small_line = refl
 
 small-readable : readable true small_text small_file ≡ true

@@ -88,9 +88,9 @@ use Rattle.listing_model.proofs.Claim as ListingProof
 -- Whole files (`decode_cue`): a canvas is given exactly where the files have a reading for the cue and the stream and
 -- the buffers are long enough, no files have two readings for one cue and stream, and times, origin, size, the numbers
 -- of codes and of clipped ones and every byte of the canvas are the reading's.
-pub whole-files : (text file : List ℕ) (q : Wanted) (b : Lent) (r : CanvasAnswer) (b' : Lent)
+pub whole_files : (text file : List ℕ) (q : Wanted) (b : Lent) (r : CanvasAnswer) (b' : Lent)
     → CuePainted text file q b r b' → Exactly text file q b r b'
-whole-files text file q b r b' d = VobsubProof.claim text file q b r b' d
+whole_files text file q b r b' d = VobsubProof.claim text file q b r b' d
 
 -- Clipped codes (`decode_cue`): their number is how many of the codes that the reading lists name a run longer than
 -- what is left of their row; a reading has no more of them than lines, and no more than codes. A clipped code paints
@@ -105,40 +105,40 @@ pub few_clipped : (text file : List ℕ) (q : Wanted) (x : Reading) → IsReadin
     → ((shown x).clipped ≤ (shown x).height) × ((shown x).clipped ≤ (shown x).codes)
 few_clipped = clipped-reading-most
 
-pub a_clipped-code : (left : ℕ) (c : Code) → overshoots left c ≡ true → (paints left c ≡ left) × (paints left c < run c)
-a_clipped-code left c h = (clipped-paints left c h, clipped-cut left c h)
+pub a_clipped_code : (left : ℕ) (c : Code) → overshoots left c ≡ true → (paints left c ≡ left) × (paints left c < run c)
+a_clipped_code left c h = (clipped-paints left c h, clipped-cut left c h)
 
-pub an_unclipped-run : (left : ℕ) (c : Code) → fills c ≡ false → overshoots left c ≡ false → paints left c ≡ run c
-an_unclipped-run = unclipped-whole
+pub an_unclipped_run : (left : ℕ) (c : Code) → fills c ≡ false → overshoots left c ≡ false → paints left c ≡ run c
+an_unclipped_run = unclipped-whole
 
 -- Show and hide times (`decode_cue`): whether a start and a stop command stand, and both times, are the reading's. The
 -- show time is the cue's start and the converted delay of the first start after it, the hide time goes by the last
 -- stop; without a start there is neither, without a stop no hide time. Each stays in signed 64 bits: where text, cue,
 -- stream, position, form, unit and room are in order 33 is returned exactly where one leaves, and where one of them is
 -- not (`listed_in` refuses) its refusal keeps its number.
-pub show-and-hide : (text file : List ℕ) (q : Wanted) (b : Lent) (r : CanvasAnswer) (b' : Lent)
+pub show_and_hide : (text file : List ℕ) (q : Wanted) (b : Lent) (r : CanvasAnswer) (b' : Lent)
     → CuePainted text file q b r b' → (s : Shown) → r ≡ CanvasAnswer.Paints s → (x : Reading) → IsReading text file q x
     → (s.started ≡ given (told_by x).starts) × (s.stopped ≡ given (told_by x).stops)
     × (s.show.0 ≡ time_or0 (show_of x)) × (s.hides ≡ given (hide_of x)) × (s.hide.0 ≡ time_or0 (hide_of x))
-show-and-hide text file q b r b' d s p x h = VobsubProof.shown_times_lem text file q b r b' d s p x h
+show_and_hide text file q b r b' d s p x h = VobsubProof.shown_times_lem text file q b r b' d s p x h
 
-pub a-show_time : (x : Reading) (d : ℕ) → (told_by x).starts ≡ some d
+pub a_show_time : (x : Reading) (d : ℕ) → (told_by x).starts ≡ some d
     → show_of x ≡ some (reading_start x +ℤ pos (d * 102400 / 9))
-a-show_time = shown_at_lem
+a_show_time = shown_at_lem
 
-pub a-hide_time : (x : Reading) (d e : ℕ) → (told_by x).starts ≡ some d → (told_by x).stops ≡ some e
+pub a_hide_time : (x : Reading) (d e : ℕ) → (told_by x).starts ≡ some d → (told_by x).stops ≡ some e
     → hide_of x ≡ some (reading_start x +ℤ pos (e * 102400 / 9))
-a-hide_time = hidden_at
+a_hide_time = hidden_at
 
-pub never-shown : (x : Reading) → (told_by x).starts ≡ none → (show_of x ≡ none) × (hide_of x ≡ none)
-never-shown = not-shown
+pub never_shown : (x : Reading) → (told_by x).starts ≡ none → (show_of x ≡ none) × (hide_of x ≡ none)
+never_shown = not-shown
 
 pub never_hidden : (x : Reading) → (told_by x).stops ≡ none → hide_of x ≡ none
 never_hidden = not_hidden
 
-pub times-in_64_bits : (text file : List ℕ) (q : Wanted) (x : Reading) → IsReading text file q x
+pub times_in_64_bits : (text file : List ℕ) (q : Wanted) (x : Reading) → IsReading text file q x
     → TimeStays (shown x).show × TimeStays (shown x).hide
-times-in_64_bits = times_stay_lem
+times_in_64_bits = times_stay_lem
 
 pub refused_33 : (text file : List ℕ) (q : Wanted) (b : Lent) (r : CanvasAnswer) (b' : Lent)
     → CuePainted text file q b r b' → (x : Reading) (c : Cue) → IsText text x.text → x.cue ≡ q.cue
@@ -147,9 +147,9 @@ pub refused_33 : (text file : List ℕ) (q : Wanted) (b : Lent) (r : CanvasAnswe
     → (r ≡ CanvasAnswer.Refused long_instant) ↔ (TimeStays (show_of x) × TimeStays (hide_of x) → ⊥)
 refused_33 = late-listed
 
-pub refused-before-33 : (text file : List ℕ) (q : Wanted) (b : Lent) (r : CanvasAnswer) (b' : Lent)
+pub refused_before_33 : (text file : List ℕ) (q : Wanted) (b : Lent) (r : CanvasAnswer) (b' : Lent)
     → CuePainted text file q b r b' → (n : ℕ) → listed_in text file q b ≡ refuse n → r ≡ CanvasAnswer.Refused n
-refused-before-33 = earlier
+refused_before_33 = earlier
 
 -- Other streams (`decode_cue`, `extract_spu`, `cue_line`): a file that differs in packets of other streams alone, among
 -- those walked from the cue's position, gives the same readings, the same answer and the same buffers. Every place has
@@ -158,14 +158,14 @@ pub other_streams : (text file : List ℕ) (q : Wanted) (b : Lent) (r : CanvasAn
     → CuePainted text file q b r b' → Undisturbed text file q b r b'
 other_streams text file q b r b' d = VobsubStreams.undisturbed text file q b r b' d
 
-pub other_streams-unit : (f : List ℕ) (p n : ℕ) (s : List ℕ) (r : UnitAnswer) (s' : List ℕ) → Extracted f p n s r s'
+pub other_streams_unit : (f : List ℕ) (p n : ℕ) (s : List ℕ) (r : UnitAnswer) (s' : List ℕ) → Extracted f p n s r s'
     → PsClaim.Undisturbed f p n s r s'
-other_streams-unit f p n s r s' d = PsProof.undisturbed f p n s r s' d
+other_streams_unit f p n s r s' d = PsProof.undisturbed f p n s r s' d
 
-pub other_streams-line : (cs : List Cue) (f : List ℕ) (n : ℕ) (l s : List ℕ) (r : ℕ) (l' s' : List ℕ)
+pub other_streams_line : (cs : List Cue) (f : List ℕ) (n : ℕ) (l s : List ℕ) (r : ℕ) (l' s' : List ℕ)
     → listing.Written (cue_line cs f n) l r l'
     → s' ≡ sets s 0 (unit_stored (form_for cs f n)) → listing.Undisturbed cs f n l s r l' s'
-other_streams-line cs f n l s r l' s' d e = ListingProof.undisturbed cs f n l s r l' s' d e
+other_streams_line cs f n l s r l' s' d e = ListingProof.undisturbed cs f n l s r l' s' d e
 
 pub same_walk : (s : ℕ) (f g : List ℕ) (p : ℕ) (ps : List Packet) → Walk (stream_id s) f p [] ps → Alike s f g ps
     → Walk (stream_id s) g p [] ps
@@ -179,13 +179,13 @@ a_walk = walk_there
 -- stream, position and form are in order, scratch is long enough, and the blocks are listed and give the picture a
 -- size, 34 is returned exactly where the blocks have more; so for a unit, and for a payload where its list has more.
 -- Nothing is refused with 23.
-pub thirty_two-bands : (text file : List ℕ) (q : Wanted) (x : Reading) → IsReading text file q x
+pub thirty_two_bands : (text file : List ℕ) (q : Wanted) (x : Reading) → IsReading text file q x
     → length (told_by x).bands ≤ 32
-thirty_two-bands text file q x h = h.unit_is.few
+thirty_two_bands text file q x h = h.unit_is.few
 
-pub words_of-32-bands : (u : List ℕ) → ((i : ℕ) → byte u i < 256) → (l : ListedUnit) → IsUnit u l
+pub words_of_32_bands : (u : List ℕ) → ((i : ℕ) → byte u i < 256) → (l : ListedUnit) → IsUnit u l
     → (length (band_words (told l.blocks).bands) ≤ 1536) × (length (record_words (told l.blocks).bands) ≡ 1536)
-words_of-32-bands u s l h = let w = most_words-hold u s l.blocks h.chain h.few in (w, record-length (told l.blocks).bands w)
+words_of_32_bands u s l h = let w = most_words-hold u s l.blocks h.chain h.few in (w, record-length (told l.blocks).bands w)
 
 pub refused_34 : (text file : List ℕ) (q : Wanted) (b : Lent) (r : CanvasAnswer) (b' : Lent)
     → CuePainted text file q b r b' → (t : ListedText) (c : Cue) (m : Form) (bs : List Block) → IsText text t
@@ -195,10 +195,10 @@ pub refused_34 : (text file : List ℕ) (q : Wanted) (b : Lent) (r : CanvasAnswe
     → (r ≡ CanvasAnswer.Refused many_bands) ↔ (32 < length (told bs).bands)
 refused_34 = many-listed
 
-pub a-unit-34 : (u : List ℕ) (bs : List Block) → IsChain u bs → (told bs).at.x1 ≤ (told bs).at.x2
+pub a_unit_34 : (u : List ℕ) (bs : List Block) → IsChain u bs → (told bs).at.x1 ≤ (told bs).at.x2
     → (told bs).at.y1 ≤ (told bs).at.y2
     → (px : List ℕ) (r : Record) (px' : List ℕ) → unit.Decoded u px r px' → (r.refused ≡ many_bands) ↔ (32 < length (told bs).bands)
-a-unit-34 = unit-many
+a_unit_34 = unit-many
 
 pub a_payload_34 : (s : List ℕ) → ((i : ℕ) → byte s i < 256) → (ws : List ℕ) (r : BandAnswer) (ws' : List ℕ)
     → Stored s ws r ws'
@@ -214,25 +214,25 @@ pub a_unit : (u : List ℕ) → ((i : ℕ) → byte u i < 256) → (px : List �
     → unit.Decoded u px r px' → UnitClaim.Says u px px' r
 a_unit u s px r px' d = UnitProof.claim u s px r px' d
 
-pub a-unit-measured : (u : List ℕ) (r : SpuAnswer) → r ≡ unit.spu_answer (unit_at u) → UnitClaim.Measures u r
-a-unit-measured u r d = UnitProof.measures u r d
+pub a_unit_measured : (u : List ℕ) (r : SpuAnswer) → r ≡ unit.spu_answer (unit_at u) → UnitClaim.Measures u r
+a_unit_measured u r d = UnitProof.measures u r d
 
 pub one_unit : (u : List ℕ) (a b : ListedUnit) → IsUnit u a → IsUnit u b → a ≡ b
 one_unit = unit-unique
 
 -- A position (`extract_spu`): a unit is found exactly where there is such a stream, the grammar lists a unit of it
 -- there, bare or in packets, and scratch is long enough.
-pub a-position : (f : List ℕ) (p n : ℕ) (s : List ℕ) (r : UnitAnswer) (s' : List ℕ) → Extracted f p n s r s'
+pub a_position : (f : List ℕ) (p n : ℕ) (s : List ℕ) (r : UnitAnswer) (s' : List ℕ) → Extracted f p n s r s'
     → PsClaim.Says f p n s s' r
-a-position f p n s r s' d = PsProof.claim f p n s r s' d
+a_position f p n s r s' d = PsProof.claim f p n s r s' d
 
-pub one-position : (id : ℕ → Bool) (f : List ℕ) (p : ℕ) (a b : Form) → IsForm id f p a → IsForm id f p b → a ≡ b
-one-position = form_unique
+pub one_position : (id : ℕ → Bool) (f : List ℕ) (p : ℕ) (a b : Form) → IsForm id f p a → IsForm id f p b → a ≡ b
+one_position = form_unique
 
 -- A field (`decode_rle_field`): it is accepted exactly where the grammar lists its rows and the map holds the picture.
-pub a-field : (s : List ℕ) (w h start : ℕ) (px : List ℕ) (r : FieldAnswer) (px' : List ℕ)
+pub a_field : (s : List ℕ) (w h start : ℕ) (px : List ℕ) (r : FieldAnswer) (px' : List ℕ)
     → field.Decoded s w h start px r px' → FieldClaim.Says s w h start px px' r
-a-field s w h start px r px' d = FieldProof.claim s w h start px r px' d
+a_field s w h start px r px' d = FieldProof.claim s w h start px r px' d
 
 pub one_field : (u : List ℕ) (e w p : ℕ) (a b : List (List Code)) → length a ≡ length b → FieldRows u e w p a
     → FieldRows u e w p b → a ≡ b
@@ -244,8 +244,8 @@ pub a_payload : (s : List ℕ) → ((i : ℕ) → byte s i < 256) → (ws : List
     → Stored s ws r ws' → BandsClaim.Says s ws ws' r
 a_payload s h ws r ws' d = BandsProof.claim s h ws r ws' d
 
-pub one-payload : (u : List ℕ) (e p : ℕ) (a b : List Band) → Bands u e p a → Bands u e p b → a ≡ b
-one-payload = bands-unique
+pub one_payload : (u : List ℕ) (e p : ℕ) (a b : List Band) → Bands u e p a → Bands u e p b → a ≡ b
+one_payload = bands-unique
 
 -- An index text (`parse_idx`), and one cue of it (`pick_cue`): accepted exactly where the grammar lists it and there is
 -- room for its cues, and where it has the cue; all that is given is the listed text's.
@@ -253,11 +253,11 @@ pub a_text : (text : List ℕ) (starts : List ℤ) (positions : List ℕ) (r : I
     → IdxRead text starts positions r starts' positions' → IdxSays text starts positions r starts' positions'
 a_text = idx_claim
 
-pub a-cue : (text : List ℕ) (n : ℕ) (r : CueAnswer) → r ≡ cue_answer (pick_of (idx_of text) n) → CueSays text n r
-a-cue = cue-claim
+pub a_cue : (text : List ℕ) (n : ℕ) (r : CueAnswer) → r ≡ cue_answer (pick_of (idx_of text) n) → CueSays text n r
+a_cue = cue-claim
 
-pub one-text : (text : List ℕ) (a b : ListedText) → IsText text a → IsText text b → a ≡ b
-one-text = text_unique
+pub one_text : (text : List ℕ) (a b : ListedText) → IsText text a → IsText text b → a ≡ b
+one_text = text_unique
 
 -- Positions in 32 bits (`parse_idx`, `pick_cue`, `decode_cue`): each position of a listed text, and so of a reading, is
 -- at most 4,294,967,295, and `parse_idx` stores it whole. A text that has a timestamp whose position is larger, in
@@ -265,18 +265,18 @@ one-text = text_unique
 -- 41 is returned exactly where every byte is below `80`, such a line is the first at fault and, where cues are stored,
 -- those before it have room; no cue and no stream that is asked for changes that. 17 digits are read as the decimal
 -- number that they are, and are then too large.
-pub largest-stored : top_stored ≡ 4294967295
-largest-stored = refl
+pub largest_stored : top_stored ≡ 4294967295
+largest_stored = refl
 
 pub positions_in_32_bits : (text : List ℕ) (t : ListedText) → IsText text t → (n : ℕ) (c : Cue)
     → cue_at (cues_of t) n ≡ some c → c.position ≤ 4294967295
 positions_in_32_bits = positions-stored
 
-pub stored-whole : (text : List ℕ) (starts : List ℤ) (positions : List ℕ) (r : IdxAnswer)
+pub stored_whole : (text : List ℕ) (starts : List ℤ) (positions : List ℕ) (r : IdxAnswer)
     (starts' : List ℤ) (positions' : List ℕ)
     → IdxRead text starts positions r starts' positions' → (t : ListedText) → IsText text t → r.refused ≡ 0
     → (n : ℕ) (c : Cue) → cue_at (cues_of t) n ≡ some c → (get_or positions' n 0 ≡ c.position) × (c.position ≤ 4294967295)
-stored-whole = held_whole
+stored_whole = held_whole
 
 pub larger_unlisted : (text : List ℕ) → LargeIn text
     → ((t : ListedText) → IsText text t → ⊥)
@@ -314,36 +314,36 @@ pub refused_41 : (text file : List ℕ) (q : Wanted) (b : Lent) (r : CanvasAnswe
     → (r ≡ CanvasAnswer.Refused large_position) ↔ ((ls : List Said) × FirstLarge text ls)
 refused_41 = call_large
 
-pub seventeen-digits :
+pub seventeen_digits :
     (h : LargePosition (record { place = 0; bytes = timestamp_word ++ 48 ∷ 44 ∷ filepos_word ++ 49 ∷ replicate 16 48 }))
     × (h.number.value ≡ 10000000000000000)
-seventeen-digits = seventeen-large
+seventeen_digits = seventeen-large
 
 -- An index of no bytes (`parse_idx`, `pick_cue`, `decode_cue`) is listed in one way, as one cue in greys. It needs a
 -- place in both buffers, and is stored in the first of each; it has cue 0 and no other; its readings are those of the
 -- units at the file's front, in greys, and so is every canvas. Entry i of the 16 is 17 times i in red, green and blue.
 -- No other text is listed so: one of blanks alone has no cue, so no reading, and needs no place, and a text with a byte
 -- in which no line gives a palette is black.
-pub an_empty-index : (t : ListedText) → IsText [] t ↔ (t ≡ no_bytes greys)
-an_empty-index = no_bytes-listed
+pub an_empty_index : (t : ListedText) → IsText [] t ↔ (t ≡ no_bytes greys)
+an_empty_index = no_bytes-listed
 
 pub no_other_text : (text p : List ℕ) → IsText text (no_bytes p) → (text ≡ []) × (p ≡ greys)
 no_other_text = only-no_bytes
 
-pub an_empty-index-short : (starts : List ℤ) (positions : List ℕ) (r : IdxAnswer)
+pub an_empty_index_short : (starts : List ℤ) (positions : List ℕ) (r : IdxAnswer)
     (starts' : List ℤ) (positions' : List ℕ)
     → IdxRead [] starts positions r starts' positions' → min (length starts) (length positions) ≡ 0
     → (r.refused ≡ short_cues) × (starts' ≡ starts) × (positions' ≡ positions)
-an_empty-index-short = read_short
+an_empty_index_short = read_short
 
-pub an_empty-index-stored : (starts : List ℤ) (positions : List ℕ) (r : IdxAnswer)
+pub an_empty_index_stored : (starts : List ℤ) (positions : List ℕ) (r : IdxAnswer)
     (starts' : List ℤ) (positions' : List ℕ)
     → IdxRead [] starts positions r starts' positions' → 0 < min (length starts) (length positions)
     → (r ≡ record { refused = 0; width = 0; height = 0; has_palette = false; palette = greys; cues = 1 })
     × (starts' ≡ set starts 0 (pos 0)) × (positions' ≡ set positions 0 0)
-an_empty-index-stored = read-stored
+an_empty_index_stored = read-stored
 
-pub its-cue : (r : CueAnswer) → r ≡ cue_answer (pick_of (idx_of []) 0)
+pub its_cue : (r : CueAnswer) → r ≡ cue_answer (pick_of (idx_of []) 0)
     → r
     ≡ record {
       refused = 0;
@@ -354,38 +354,38 @@ pub its-cue : (r : CueAnswer) → r ≡ cue_answer (pick_of (idx_of []) 0)
       has_palette = false;
       palette = greys;
     }
-its-cue = picked_first
+its_cue = picked_first
 
-pub no_other-cue : (n : ℕ) (r : CueAnswer) → r ≡ cue_answer (pick_of (idx_of []) n) → 0 < n → r.refused ≡ no_cue
-no_other-cue = picked_other
+pub no_other_cue : (n : ℕ) (r : CueAnswer) → r ≡ cue_answer (pick_of (idx_of []) n) → 0 < n → r.refused ≡ no_cue
+no_other_cue = picked_other
 
 pub its_readings : (file : List ℕ) (q : Wanted) (x : Reading) → IsReading [] file q x
     → (x.text ≡ no_bytes greys) × (q.cue ≡ 0) × IsForm (wanted_id q) file 0 x.form
     × ((shown x).start ≡ pos 0) × ((shown x).duration ≡ none) × (canvas_of x ≡ unit_canvas greys x.unit)
 its_readings = no_bytes-reading
 
-pub every-front-unit : (file : List ℕ) (q : Wanted) (m : Form) (u : ListedUnit)
+pub every_front_unit : (file : List ℕ) (q : Wanted) (m : Form) (u : ListedUnit)
     → q.cue ≡ 0 → q.stream ≤ top_stream → 0 < length file → IsForm (wanted_id q) file 0 m → IsUnit (unit_of m) u
     → ((i : ℕ) → byte file i < 256)
     → IsReading [] file q (record { text = no_bytes greys; cue = 0; form = m; unit = u })
-every-front-unit = no_bytes-read
+every_front_unit = no_bytes-read
 
-pub an_empty-index-painted : (file : List ℕ) (q : Wanted) (b : Lent) (r : CanvasAnswer) (b' : Lent)
+pub an_empty_index_painted : (file : List ℕ) (q : Wanted) (b : Lent) (r : CanvasAnswer) (b' : Lent)
     → CuePainted [] file q b r b' → (s : Shown) → r ≡ CanvasAnswer.Paints s
     → (q.cue ≡ 0) × (s.start.0 ≡ pos 0) × (s.has_duration ≡ false)
     × ((m : Form) × (u : ListedUnit) × IsForm (wanted_id q) file 0 m × IsUnit (unit_of m) u
     × (b'.canvas ≡ sets b.canvas 0 (unit_canvas greys u)))
-an_empty-index-painted = painted-grey
+an_empty_index_painted = painted-grey
 
 pub each_grey : (length greys ≡ 3 * 16) × ((i c : ℕ) → i < 16 → c < 3 → get_or greys (3 * i + c) 0 ≡ 17 * i)
 each_grey = (grey-entries.1, grey_rule)
 
-pub blanks-alone : (text : List ℕ) → All blank text → (text ≡ [] → ⊥) → IsText text (of_lines [])
-blanks-alone = blanks-listed
+pub blanks_alone : (text : List ℕ) → All blank text → (text ≡ [] → ⊥) → IsText text (of_lines [])
+blanks_alone = blanks-listed
 
-pub blanks-no_cue : (text : List ℕ) → All blank text → (text ≡ [] → ⊥)
+pub blanks_no_cue : (text : List ℕ) → All blank text → (text ≡ [] → ⊥)
     → (t : ListedText) → IsText text t → cues_of t ≡ []
-blanks-no_cue = blanks_cueless
+blanks_no_cue = blanks_cueless
 
 pub blanks_parsed : (text : List ℕ) → All blank text → (text ≡ [] → ⊥)
     → (starts : List ℤ) (positions : List ℕ) (r : IdxAnswer) (starts' : List ℤ) (positions' : List ℕ)
@@ -413,12 +413,12 @@ pub a_picture : (w h : ℕ) (px out : List ℕ) (r : DemoAnswer) (out' : List �
 a_picture = DemoProof.claim
 
 -- No code of fewer nibbles than the one that it writes for a run paints just that run, where more of the row is left.
-pub shortest-code : (left n : ℕ) (m : Mark) → 1 ≤ n → n ≤ 255 → n < left → Proper m → painted left m ≡ n
+pub shortest_code : (left n : ℕ) (m : Mark) → 1 ≤ n → n ≤ 255 → n < left → Proper m → painted left m ≡ n
     → run_size n ≤ m.size
-shortest-code = shortest
+shortest_code = shortest
 
 -- A line of the list program (`cue_line`): it is not refused exactly where the files have a reading for the cue and
 -- stream 0, and then has its values.
-pub a-line : (cs : List Cue) (f : List ℕ) (n : ℕ) (l l' : List ℕ) (r : ℕ) → listing.Written (cue_line cs f n) l r l'
+pub a_line : (cs : List Cue) (f : List ℕ) (n : ℕ) (l l' : List ℕ) (r : ℕ) → listing.Written (cue_line cs f n) l r l'
     → listing.Exactly cs f n l l'
-a-line cs f n l l' r d = ListingProof.claim cs f n l l' r d
+a_line cs f n l l' r d = ListingProof.claim cs f n l l' r d

@@ -40,8 +40,8 @@ module _ (z y : ℤ) (f : SFits w64 z) (e : y ≡ z) where
     pub minus_below : nat_abs (to_z w64 (of_z w64 (negsuc 0 -ℤ y))) < 2 ^ 63
     minus_below = rw back (omega (arith, (flipped z f h).same, (flipped z f h).below))
 
-  pub plain-cast : pos 0 ≤ℤ z → (T (non_neg y)) × Fits w64 (nat_abs y)
-  plain-cast h = rw e (up z h, Fits-nat_abs {w = w64} {w' = w64} tt f)
+  pub plain_cast : pos 0 ≤ℤ z → (T (non_neg y)) × Fits w64 (nat_abs y)
+  plain_cast h = rw e (up z h, Fits-nat_abs {w = w64} {w' = w64} tt f)
     where
       up : (x : ℤ) → pos 0 ≤ℤ x → T (non_neg x)
       up (pos n) l = tt

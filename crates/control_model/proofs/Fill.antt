@@ -96,9 +96,9 @@ no_words (area a b c d) h = refl
 no_words (offsets a b) h = refl
 no_words (colours s bs) h = absurd (omega arith)
 
-pub plain-filled : (u : List ℕ) (L p k n to : ℕ) (o : Order) (ws : List ℕ) → L ≤ length u → k < 7 → n ≡ size_of (plain_at u p k) → order_at u L p k ≡ ok o
+pub plain_filled : (u : List ℕ) (L p k n to : ℕ) (o : Order) (ws : List ℕ) → L ≤ length u → k < 7 → n ≡ size_of (plain_at u p k) → order_at u L p k ≡ ok o
     → OrderFilled o p to ws (record { at = p + n; to = to }) ws
-plain-filled u L p k n to o ws i h e q =
+plain_filled u L p k n to o ws i h e q =
     let s = order_sound u L i p k o q in
     let d = s.coded in
     let w = no_words o (omega arith) in
@@ -158,8 +158,8 @@ module _ (u : List ℕ) (L from start : ℕ) (ws : List ℕ) (inside : L ≤ len
         (n.o, n.is, omega arith)
 
     module _ (l : at < L) (b : byte u at ≡ 255 → ⊥) (r : Place) (v : List ℕ) (f : (o : Order) → order_at u L (at + 1) (byte u at) ≡ ok o → OrderFilled o (at + 1) to ws' r v) where
-      pub filling-falls : (at < r.at) × (r.at ≤ L)
-      filling-falls =
+      pub filling_falls : (at < r.at) × (r.at ≤ L)
+      filling_falls =
           let n = next l b in
           let g = (f n.o n.is).next in
           let s = (order_sound u L inside (at + 1) (byte u at) n.o n.is).within in

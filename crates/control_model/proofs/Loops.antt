@@ -162,8 +162,8 @@ module _ (u : List ℕ) (L d from : ℕ) (spu : Spu) (inside : L ≤ length u) w
     abbrev Next : ℕ → Spu → Type 0
     Next a s = (t : Told) → told ≡ spu_of t nothing → CommandAnswer.Next a s ≡ order_answer d (at + 1) t (order_at u L (at + 1) (byte u at))
 
-    pub commanding-falls : (a : ℕ) (s : Spu) → Next a s → ((t : Told) × (spu ≡ spu_of t nothing)) → (at < a) × (a ≤ L)
-    commanding-falls a s n k =
+    pub commanding_falls : (a : ℕ) (s : Spu) → Next a s → ((t : Told) × (spu ≡ spu_of t nothing)) → (at < a) × (a ≤ L)
+    commanding_falls a s n k =
         let w = i.goes k.0 k.1 in
         let g = got u L (at + 1) (byte u at) d w.0 a s (n w.0 w.1) in
         let o = order_sound u L inside (at + 1) (byte u at) g.o g.reads in
@@ -174,7 +174,7 @@ module _ (u : List ℕ) (L d from : ℕ) (spu : Spu) (inside : L ≤ length u) w
     pub commanding_goes : (a : ℕ) (s : Spu) → Next a s → ((t : Told) × (spu ≡ spu_of t nothing)) → at < L → (byte u at ≡ 255 → ⊥) → Commanding u L d from spu a s
     unfolding spu_of command_at tell_block
     commanding_goes a s n k l b =
-        record { there = (commanding-falls a s n k).1; few = grows (i.goes k.0 k.1); goes = λ t e. go t (i.goes t e) }
+        record { there = (commanding_falls a s n k).1; few = grows (i.goes k.0 k.1); goes = λ t e. go t (i.goes t e) }
       where
         grows : ((t' : Told) × (told ≡ spu_of t' nothing) × (commands_answer d t' (commands_at u L at) ≡ commands_answer d k.0 (commands_at u L from))) → s.band_words + from ≤ spu.band_words + a
         grows w =

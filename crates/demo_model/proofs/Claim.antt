@@ -26,7 +26,7 @@ use Rattle.demo_model.specs.Unit.{top_nibbles, unit_of, is_side, all_colours, pi
 use Rattle.demo_model.specs.Answers.{Sound, demo_given, Written}
 use Rattle.demo_model.specs.declared.DemoAnswer.{DemoAnswer}
 use Rattle.demo_model.specs.Claim.{written_told, Listed, ReadsBack, RoundTrip, RoundTrips}
-use Rattle.demo_model.proofs.Marks.{fill-closes}
+use Rattle.demo_model.proofs.Marks.{fill_closes}
 use Rattle.demo_model.proofs.Unit.{Back, back}
 use Rattle.demo_model.proofs.Whole.{demo_sound}
 use Rattle.rle_model.specs.declared.Counts.{Counts}
@@ -59,7 +59,7 @@ module _ (w h : ℕ) (px : List ℕ) (n : ℕ) (u : List ℕ) (e : demo_at w h p
       omega (arith, ap length (ok-injective g.1), leb-true (length (unit_of last_marks w h px)) n g.0)
 
   read : Back last_marks w h px
-  read = let s = taken.sound in back last_marks fill-closes w h px s.wide s.w_most s.high s.h_most s.all s.colours taken.short
+  read = let s = taken.sound in back last_marks fill_closes w h px s.wide s.w_most s.high s.h_most s.all s.colours taken.short
 
   wide_is : width (told read.list.blocks) ≡ w
   wide_is = let s = taken.sound.wide in ap width read.tells ∙ omega arith

@@ -200,9 +200,9 @@ pub row-draws : (last : ℕ → ℕ → List Mark) → Closes last → (row : Li
 row-draws last closes row h = subst (λ (l : List ℕ). Draws (length l) (row_marks last row) l) (runs-spread row) (marks_draw last closes (runs row) (runs-fine row h))
 
 -- a fill paints what is left
-pub fill-closes : Closes last_marks
+pub fill_closes : Closes last_marks
 unfolding Draws paints overshoots
-fill-closes =
+fill_closes =
     record {
       draws = λ n c a k.
           let z : n - n ≡ 0 = omega arith in

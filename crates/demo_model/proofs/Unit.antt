@@ -31,8 +31,8 @@ use Rattle.demo_model.proofs.Pack.{small-append, small-field, nibbles-after, len
 -- ---- The control block
 
 module _ (w h b : ℕ) (f : List ℕ) (wide : 1 ≤ w) (w_most : w ≤ 4096) (high : 1 ≤ h) (h_most : h ≤ 4096) where
-  abbrev C : ℕ
-  C = 4 + length f
+  abbrev control_start : ℕ
+  control_start = 4 + length f
 
   -- the unit in front of its control block, and the block
   abbrev front : List ℕ
@@ -41,29 +41,29 @@ module _ (w h b : ℕ) (f : List ℕ) (wide : 1 ≤ w) (w_most : w ≤ 4096) (hi
   abbrev whole : List ℕ
   whole = word_bytes (4 + length f + 24) ++ (word_bytes (4 + length f) ++ (f ++ control_bytes (4 + length f) w h b))
 
-  front_length : length front ≡ C
+  front_length : length front ≡ control_start
   front_length = omega arith
 
-  byte-control : (p i : ℕ) → p ≡ C + i → byte whole p ≡ byte (control_bytes (4 + length f) w h b) i
+  byte-control : (p i : ℕ) → p ≡ control_start + i → byte whole p ≡ byte (control_bytes (4 + length f) w h b) i
   byte-control p i e =
       let z : p ≡ length front + i = e ∙ ap (λ (n : ℕ). n + i) (sym front_length) in
       ap (byte whole) z ∙ get_or-append-add front (control_bytes (4 + length f) w h b) i 0
 
-  word-control : (p i : ℕ) → p ≡ C + i → word whole p ≡ byte (control_bytes (4 + length f) w h b) i * 256 + byte (control_bytes (4 + length f) w h b) (i + 1)
+  word-control : (p i : ℕ) → p ≡ control_start + i → word whole p ≡ byte (control_bytes (4 + length f) w h b) i * 256 + byte (control_bytes (4 + length f) w h b) (i + 1)
   unfolding word
   word-control p i e =
       let x = byte-control p i e in
       let y = byte-control (p + 1) (i + 1) (omega arith) in
       omega arith
 
-  nibbles-control : (p i k : ℕ) → p ≡ 2 * C + i → nibbles whole p k ≡ nibbles (control_bytes (4 + length f) w h b) i k
+  nibbles-control : (p i k : ℕ) → p ≡ 2 * control_start + i → nibbles whole p k ≡ nibbles (control_bytes (4 + length f) w h b) i k
   nibbles-control p i k e =
       let z : p ≡ 2 * length front + i = omega (arith, e, front_length) in
       ap (λ (n : ℕ). nibbles whole n k) z ∙ nibbles-after front (control_bytes (4 + length f) w h b) i k
 
   -- a command of the block
   abbrev command : ℕ → Order → Command
-  command i o = record { place = C + i; order = o }
+  command i o = record { place = control_start + i; order = o }
 
   abbrev commands : List Command
   commands =
@@ -75,7 +75,7 @@ module _ (w h b : ℕ) (f : List ℕ) (wide : 1 ≤ w) (w_most : w ≤ 4096) (hi
       ∷ []
 
   abbrev block : Block
-  block = record { place = C; delay = 0; next = C; commands = commands }
+  block = record { place = control_start; delay = 0; next = control_start; commands = commands }
 
   -- three nibbles, from the second half of a byte on and from its first half on
   low_three : (n : ℕ) → n < 4096 → ((0 * 16 + n / 256 % 16) * 16 + n % 256 / 16 % 16) * 16 + n % 256 % 16 ≡ n
@@ -84,7 +84,7 @@ module _ (w h b : ℕ) (f : List ℕ) (wide : 1 ≤ w) (w_most : w ≤ 4096) (hi
   high_three : (n : ℕ) → n < 4096 → ((0 * 16 + 0) * 16 + 0) * 16 + n / 256 / 16 % 16 ≡ 0
   high_three n l = omega arith
 
-  control-area : IsCommand whole (C + 24) (command 10 (area 0 (w - 1) 0 (h - 1)))
+  control-area : IsCommand whole (control_start + 24) (command 10 (area 0 (w - 1) 0 (h - 1)))
   unfolding nibbles nibble
   control-area =
       let x1 : nibbles (control_bytes (4 + length f) w h b) 22 3 ≡ 0 = high_three (w - 1) (omega arith) in
@@ -93,23 +93,23 @@ module _ (w h b : ℕ) (f : List ℕ) (wide : 1 ≤ w) (w_most : w ≤ 4096) (hi
       let y2 : nibbles (control_bytes (4 + length f) w h b) 31 3 ≡ h - 1 = low_three (h - 1) (omega arith) in
       record {
         within = omega arith;
-        coded = byte-control (C + 10) 10 refl;
+        coded = byte-control (control_start + 10) 10 refl;
         says = (
-          sym (nibbles-control (2 * (C + 10 + 1)) 22 3 (omega arith) ∙ x1),
-          sym (nibbles-control (2 * (C + 10 + 1) + 3) 25 3 (omega arith) ∙ x2),
-          sym (nibbles-control (2 * (C + 10 + 1) + 6) 28 3 (omega arith) ∙ y1),
-          sym (nibbles-control (2 * (C + 10 + 1) + 9) 31 3 (omega arith) ∙ y2),
+          sym (nibbles-control (2 * (control_start + 10 + 1)) 22 3 (omega arith) ∙ x1),
+          sym (nibbles-control (2 * (control_start + 10 + 1) + 3) 25 3 (omega arith) ∙ x2),
+          sym (nibbles-control (2 * (control_start + 10 + 1) + 6) 28 3 (omega arith) ∙ y1),
+          sym (nibbles-control (2 * (control_start + 10 + 1) + 9) 31 3 (omega arith) ∙ y2),
         );
       }
 
-  control-commands : Commands whole (C + 24) (C + 4) commands
+  control-commands : Commands whole (control_start + 24) (control_start + 4) commands
   unfolding Commands
   control-commands = (
     refl,
-    record { within = omega arith; coded = byte-control (C + 4) 4 refl; says = sym (word-control (C + 4 + 1) 5 (omega arith)) },
+    record { within = omega arith; coded = byte-control (control_start + 4) 4 refl; says = sym (word-control (control_start + 4 + 1) 5 (omega arith)) },
     (
       omega arith,
-      record { within = omega arith; coded = byte-control (C + 7) 7 refl; says = sym (word-control (C + 7 + 1) 8 (omega arith)) },
+      record { within = omega arith; coded = byte-control (control_start + 7) 7 refl; says = sym (word-control (control_start + 7 + 1) 8 (omega arith)) },
       (
         omega arith,
         control-area,
@@ -117,25 +117,25 @@ module _ (w h b : ℕ) (f : List ℕ) (wide : 1 ≤ w) (w_most : w ≤ 4096) (hi
           omega arith,
           record {
             within = omega arith;
-            coded = byte-control (C + 17) 17 refl;
-            says = (sym (word-control (C + 17 + 1) 18 (omega arith)), sym (word-control (C + 17 + 1 + 2) 20 (omega arith) ∙ omega arith));
+            coded = byte-control (control_start + 17) 17 refl;
+            says = (sym (word-control (control_start + 17 + 1) 18 (omega arith)), sym (word-control (control_start + 17 + 1 + 2) 20 (omega arith) ∙ omega arith));
           },
           (
             omega arith,
-            record { within = omega arith; coded = byte-control (C + 22) 22 refl; says = tt },
-            inr (omega arith, byte-control (C + 22 + 1 + 0) 23 (omega arith)),
+            record { within = omega arith; coded = byte-control (control_start + 22) 22 refl; says = tt },
+            inr (omega arith, byte-control (control_start + 22 + 1 + 0) 23 (omega arith)),
           ),
         ),
       ),
     ),
   )
 
-  control_chain : C + 24 < 65536 → IsChain whole (block ∷ [])
+  control_chain : control_start + 24 < 65536 → IsChain whole (block ∷ [])
   unfolding word Chain
   control_chain m =
-      let L : word whole 0 ≡ C + 24 = omega arith in
-      let k : word whole 2 ≡ C = omega arith in
-      let n : length whole ≡ C + 24 = length-append front (control_bytes (4 + length f) w h b) ∙ omega arith in
+      let L : word whole 0 ≡ control_start + 24 = omega arith in
+      let k : word whole 2 ≡ control_start = omega arith in
+      let n : length whole ≡ control_start + 24 = length-append front (control_bytes (4 + length f) w h b) ∙ omega arith in
       record {
         head = omega arith;
         control = omega arith;
@@ -144,7 +144,7 @@ module _ (w h b : ℕ) (f : List ℕ) (wide : 1 ≤ w) (w_most : w ≤ 4096) (hi
         chain =
             rw (L, k) (
               refl,
-              record { within = omega arith; delay_is = sym (word-control C 0 (omega arith)); next_is = sym (word-control (C + 2) 2 (omega arith) ∙ omega arith); list = control-commands },
+              record { within = omega arith; delay_is = sym (word-control control_start 0 (omega arith)); next_is = sym (word-control (control_start + 2) 2 (omega arith) ∙ omega arith); list = control-commands },
               inl (omega arith, refl),
             );
       }

@@ -18,7 +18,7 @@ use Rattle.demo_model.specs.Answers.{half, Inked, Sound, EndsOf, FieldsWritten, 
 use Rattle.demo_model.specs.declared.NibbleWriter.{NibbleWriter}
 use Rattle.demo_model.specs.declared.Ends.{Ends}
 use Rattle.demo_model.specs.declared.DemoAnswer.{DemoAnswer}
-use Rattle.demo_model.proofs.Marks.{fill-closes}
+use Rattle.demo_model.proofs.Marks.{fill_closes}
 use Rattle.demo_model.proofs.Unit.{top-even, fields-length}
 use Rattle.demo_model.proofs.Ink.{inked_as}
 use Rattle.demo_model.proofs.Picture.{from_row, rows-tail, colours-four}
@@ -49,14 +49,14 @@ module _ (w h : ℕ) (px : List ℕ) where
       → (e : Ends) → e.top ≡ t.pos → e.all ≡ r.pos → e.all ≤ 200000000 → FieldsWritten w h px out e out'
   fields-written out mid out' v t r a b f g e p q m =
       let x = inked_as (from_row w h px 0) top out t mid from-top (f [] out (omega arith) (none-inked out v a b)) in
-      let y = inked_as (top ++ from_row w h px 1) (top ++ bottom) out r out' (ap (λ (l : List ℕ). top ++ l) from-bottom) (g top out (top-even last_marks fill-closes w h px) x) in
+      let y = inked_as (top ++ from_row w h px 1) (top ++ bottom) out r out' (ap (λ (l : List ℕ). top ++ l) from-bottom) (g top out (top-even last_marks fill_closes w h px) x) in
       record { ends = record { top = p ∙ x.count; all = q ∙ y.count ∙ length-append top bottom }; most = m; bytes = y.bytes }
 
   -- ---- The unit
 
   module _ (e : Ends) (d : EndsOf w h px e) where
     control-is : 4 + e.all / 2 ≡ 4 + length (packed (top ++ bottom))
-    control-is = let a = d.all in let b = fields-length last_marks fill-closes w h px in omega arith
+    control-is = let a = d.all in let b = fields-length last_marks fill_closes w h px in omega arith
 
     bottom-is : 4 + e.top / 2 ≡ 4 + length top / 2
     bottom-is = let a = d.top in omega arith

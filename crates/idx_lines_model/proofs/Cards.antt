@@ -10,16 +10,16 @@ use Rattle.grammar.specs.Index.{timestamp_word, filepos_word, start_of}
 use Rattle.grammar.specs.IndexNumbers.{numeral}
 use Rattle.idx_numbers_model.specs.Parts.{part, front, rest, shorn, trim, split, strip, all}
 use Rattle.idx_numbers_model.specs.Numbers.{unsigned, signed, bare, position_of}
-use Rattle.idx_lines_model.specs.Lines.{tokens, palette_at, fields, steps, first_of, last_of, parts_at, line_of}
+use Rattle.idx_lines_model.specs.Lines.{tokens, palette_at, fields, steps, first_such, last_such, parts_at, line_of}
 use Rattle.idx_lines_model.specs.Answers.{Value, cued, lean}
 
 -- of two parts that pass a test, the first and the last
-pub first_part : first_of (λ p. true) (part 0 [] ∷ part 1 [] ∷ []) ≡ some (part 0 [])
-unfolding first_of
+pub first_part : first_such (λ p. true) (part 0 [] ∷ part 1 [] ∷ []) ≡ some (part 0 [])
+unfolding first_such
 first_part = refl
 
-pub last-part : last_of (λ p. true) (part 0 [] ∷ part 1 [] ∷ []) ≡ some (part 1 [])
-unfolding last_of
+pub last-part : last_such (λ p. true) (part 0 [] ∷ part 1 [] ∷ []) ≡ some (part 1 [])
+unfolding last_such
 last-part = refl
 
 -- sixteen tokens `0`, and `g` after them
@@ -41,16 +41,16 @@ at d = lean (line_of (part 0 (stamp d)))
 
 -- `FFFFFFFF` is a cue at that position, and `100000000` is 41
 pub last_stored : at (70 ∷ 70 ∷ 70 ∷ 70 ∷ 70 ∷ 70 ∷ 70 ∷ 70 ∷ []) ≡ ok (some (cued (pos 0) 4294967295))
-unfolding line_of strip trim front rest shorn split parts_at first_of last_of fields steps unsigned signed bare all numeral start_of
+unfolding line_of strip trim front rest shorn split parts_at first_such last_such fields steps unsigned signed bare all numeral start_of
 last_stored = refl
 
 pub first-large : at past_stored ≡ refuse large_position
-unfolding line_of strip trim front rest shorn split parts_at first_of last_of fields steps unsigned signed bare all numeral start_of
+unfolding line_of strip trim front rest shorn split parts_at first_such last_such fields steps unsigned signed bare all numeral start_of
 first-large = refl
 
 -- `10000000000000000`, 17 digits: it is read as that decimal number, and then 41
 pub seventeen-large :
     (position_of (past_stored ++ 48 ∷ 48 ∷ 48 ∷ 48 ∷ 48 ∷ 48 ∷ 48 ∷ 48 ∷ []) ≡ some 10000000000000000)
     × (at (past_stored ++ 48 ∷ 48 ∷ 48 ∷ 48 ∷ 48 ∷ 48 ∷ 48 ∷ 48 ∷ []) ≡ refuse large_position)
-unfolding line_of strip trim front rest shorn split parts_at first_of last_of fields steps unsigned signed bare all numeral start_of
+unfolding line_of strip trim front rest shorn split parts_at first_such last_such fields steps unsigned signed bare all numeral start_of
 seventeen-large = (refl, refl)

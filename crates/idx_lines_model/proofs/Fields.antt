@@ -276,11 +276,11 @@ module _ (s : List ℕ) (i : ℕ) (inside : i < length s) where
         go true = rw (ne_eqb (get_or s i 0) 45 no_minus, ne_eqb (get_or s i 0) 43 no_plus)
         go false = refl
 
-    pub plain-bad : top ≡ 2 ^ 63 - 1 → r ≡ NoCount → FieldAt s i NoField
-    plain-bad t f = let w = rw t at (counted_none s i top r told f) in field-bad s i (omega arith) (rw (plain, ← w))
+    pub plain_bad : top ≡ 2 ^ 63 - 1 → r ≡ NoCount → FieldAt s i NoField
+    plain_bad t f = let w = rw t at (counted_none s i top r told f) in field-bad s i (omega arith) (rw (plain, ← w))
 
-    pub plain-good : top ≡ 2 ^ 63 - 1 → (v d : ℕ) → r ≡ IsCount v d → FieldAt s i (IsField (to_z w64 v) (d + 1))
-    plain-good t v d f =
+    pub plain_good : top ≡ 2 ^ 63 - 1 → (v d : ℕ) → r ≡ IsCount v d → FieldAt s i (IsField (to_z w64 v) (d + 1))
+    plain_good t v d f =
         let w = rw t at (counted-some s i top r told v d f) in
         let l : v ≤ 2 ^ 63 - 1 = rw t at (counted-most s i top r told v d f) in
         let y : to_z w64 v ≡ pos v = to_z_pos w64 (omega arith) in

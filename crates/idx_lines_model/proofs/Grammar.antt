@@ -17,7 +17,7 @@ use Rattle.grammar.specs.IndexParts.{parting, token_byte, unlike, All, Span, Sta
 use Rattle.grammar.specs.Parts.{Part}
 use Rattle.idx_numbers_model.specs.Numbers.{unsigned, signed, bare, hex, or_else, position_of}
 use Rattle.idx_numbers_model.specs.Parts.{part, valued, front, rest, trim, split, strip, after, found}
-use Rattle.idx_lines_model.specs.Lines.{Two, halved, halves, size_or, cons_with, token_and, tokens, fields, steps, first_of, last_of, is_filepos, timestamp_at, by_word, line_of, is_other, parts_at, position_at}
+use Rattle.idx_lines_model.specs.Lines.{Two, halved, halves, size_or, cons_with, token_and, tokens, fields, steps, first_such, last_such, is_filepos, timestamp_at, by_word, line_of, is_other, parts_at, position_at}
 use Rattle.clock_model.specs.Sums.{stays}
 use Rattle.grammar.proofs.Positions.{position-within}
 use Rattle.outcome.proofs.Laws.{ok-injective, ok-not-refuse, check-ok, and-true}
@@ -241,48 +241,48 @@ module _ (P : Part → Type 0) (t : Part → Bool) (yes_P : (p : Part) → t p �
       go true e = absurd (h (yes_P p e))
       go false e = refl
 
-  pub first_is : (ps : List Part) (x : Part) → first_of t ps ≡ some x → First P ps x
-  unfolding first_of
+  pub first_is : (ps : List Part) (x : Part) → first_such t ps ≡ some x → First P ps x
+  unfolding first_such
   first_is [] x e = never (cc)
   first_is (p ∷ ps) x e = go (first_is ps x) (t p) refl e
     where
-      go : (first_of t ps ≡ some x → First P ps x) → (u : Bool) → t p ≡ u → cond u (some p) (first_of t ps) ≡ some x → First P (p ∷ ps) x
+      go : (first_such t ps ≡ some x → First P ps x) → (u : Bool) → t p ≡ u → cond u (some p) (first_such t ps) ≡ some x → First P (p ∷ ps) x
       go ih true q e = inl (yes_P p q, cc)
       go ih false q e = inr (no_P p q, ih e)
 
-  pub first_one : (ps : List Part) (x : Part) → First P ps x → first_of t ps ≡ some x
-  unfolding first_of
+  pub first_one : (ps : List Part) (x : Part) → First P ps x → first_such t ps ≡ some x
+  unfolding first_such
   first_one [] x h = absurd h
   first_one (p ∷ ps) x (inl h) = rw (tells p h.0) (ap some h.1)
   first_one (p ∷ ps) x (inr h) = rw (denies p h.0) (first_one ps x h.1)
 
-  none_last : (ps : List Part) → NoneOf P ps → last_of t ps ≡ none
-  unfolding last_of
+  none_last : (ps : List Part) → NoneOf P ps → last_such t ps ≡ none
+  unfolding last_such
   none_last [] h = refl
   none_last (p ∷ ps) h = rw (none_last ps h.1, denies p h.0)
 
-  last_none : (ps : List Part) → last_of t ps ≡ none → NoneOf P ps
-  unfolding last_of
+  last_none : (ps : List Part) → last_such t ps ≡ none → NoneOf P ps
+  unfolding last_such
   last_none [] e = tt
-  last_none (p ∷ ps) e = go (last_none ps) (last_of t ps) refl (t p) refl e
+  last_none (p ∷ ps) e = go (last_none ps) (last_such t ps) refl (t p) refl e
     where
-      go : (last_of t ps ≡ none → NoneOf P ps) → (o : Option Part) → last_of t ps ≡ o → (u : Bool) → t p ≡ u → or_else o (cond u (some p) none) ≡ none → NoneOf P (p ∷ ps)
+      go : (last_such t ps ≡ none → NoneOf P ps) → (o : Option Part) → last_such t ps ≡ o → (u : Bool) → t p ≡ u → or_else o (cond u (some p) none) ≡ none → NoneOf P (p ∷ ps)
       go ih (some y) q u r e = never (cc)
       go ih none q true r e = never (cc)
       go ih none q false r e = (no_P p r, ih q)
 
-  pub last_is : (ps : List Part) (x : Part) → last_of t ps ≡ some x → Last P ps x
-  unfolding last_of
+  pub last_is : (ps : List Part) (x : Part) → last_such t ps ≡ some x → Last P ps x
+  unfolding last_such
   last_is [] x e = never (cc)
-  last_is (p ∷ ps) x e = go (last_is ps x) (last_of t ps) refl (t p) refl e
+  last_is (p ∷ ps) x e = go (last_is ps x) (last_such t ps) refl (t p) refl e
     where
-      go : (last_of t ps ≡ some x → Last P ps x) → (o : Option Part) → last_of t ps ≡ o → (u : Bool) → t p ≡ u → or_else o (cond u (some p) none) ≡ some x → Last P (p ∷ ps) x
+      go : (last_such t ps ≡ some x → Last P ps x) → (o : Option Part) → last_such t ps ≡ o → (u : Bool) → t p ≡ u → or_else o (cond u (some p) none) ≡ some x → Last P (p ∷ ps) x
       go ih (some y) q u r e = inl (ih (q ∙ e))
       go ih none q true r e = inr (last_none ps q, yes_P p r, cc)
       go ih none q false r e = never (cc)
 
-  pub last_one : (ps : List Part) (x : Part) → Last P ps x → last_of t ps ≡ some x
-  unfolding last_of
+  pub last_one : (ps : List Part) (x : Part) → Last P ps x → last_such t ps ≡ some x
+  unfolding last_such
   last_one [] x h = absurd h
   last_one (p ∷ ps) x (inl h) = rw (last_one ps x h)
   last_one (p ∷ ps) x (inr h) = rw (none_last ps h.0, tells p h.1) (ap some h.2)
@@ -310,8 +310,8 @@ other_no p e h = h (filepos-yes p (not-false (is_filepos p) e))
 
 -- what each step found is a timestamp, within any bound that the position keeps
 timestamp-read : (top : ℕ) (r t p : Part) (fs : List (Valued ℤ)) (x : Part) (v : ℕ)
-    → first_of is_other (parts_at r.place r.bytes) ≡ some t
-    → last_of is_filepos (parts_at r.place r.bytes) ≡ some p → fields 4 (split colon t.place t.bytes) ≡ some fs
+    → first_such is_other (parts_at r.place r.bytes) ≡ some t
+    → last_such is_filepos (parts_at r.place r.bytes) ≡ some p → fields 4 (split colon t.place t.bytes) ≡ some fs
     → steps fs ≡ true → after filepos_word p ≡ some x → position_of (trim x).bytes ≡ some v → v ≤ top
     → TimestampTo top r (parts_at r.place r.bytes) fs (valued (trim x) v)
 unfolding parts_at
@@ -339,8 +339,8 @@ pub timestamp-is : (i r : Part) (o : Option Said) → timestamp_at i r ≡ ok o
     → (ps : List Part) × (fs : List (Valued ℤ)) × (n : Valued ℕ) × (o ≡ some (timestamp i ps fs n)) × IsTimestamp r ps fs n
 timestamp-is i r o e =
     let ps : List Part = parts_at r.place r.bytes in
-    given no_time (first_of is_other ps) _ e (λ t q₁ e₁.
-    given no_position (last_of is_filepos ps) _ e₁ (λ p q₂ e₂.
+    given no_time (first_such is_other ps) _ e (λ t q₁ e₁.
+    given no_position (last_such is_filepos ps) _ e₁ (λ p q₂ e₂.
     given bad_time (fields 4 (split colon t.place t.bytes)) _ e₂ (λ fs q₃ e₃.
     checked long_time (steps fs) (position_at i ps fs p) e₃ (λ q₄ e₄.
     given bad_position (after filepos_word p) _ e₄ (λ x q₅ e₅.
@@ -359,8 +359,8 @@ timestamp-large : (i r : Part) → timestamp_at i r ≡ refuse large_position
     × (top_stored < n.value)
 timestamp-large i r e =
     let ps : List Part = parts_at r.place r.bytes in
-    lost no_time large_position (first_of is_other ps) _ e (λ z. absurd (omega arith)) (λ t q₁ e₁.
-    lost no_position large_position (last_of is_filepos ps) _ e₁ (λ z. absurd (omega arith)) (λ p q₂ e₂.
+    lost no_time large_position (first_such is_other ps) _ e (λ z. absurd (omega arith)) (λ t q₁ e₁.
+    lost no_position large_position (last_such is_filepos ps) _ e₁ (λ z. absurd (omega arith)) (λ p q₂ e₂.
     lost bad_time large_position (fields 4 (split colon t.place t.bytes)) _ e₂ (λ z. absurd (omega arith))
     (λ fs q₃ e₃.
     unchecked long_time large_position (steps fs) (position_at i ps fs p) e₃ (λ q₄ z. absurd (omega arith)) (λ q₄ e₄.

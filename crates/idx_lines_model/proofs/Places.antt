@@ -14,7 +14,7 @@ use Rattle.grammar.specs.Parts.{Part}
 use Rattle.idx_numbers_model.specs.Numbers.{or_else}
 use Rattle.idx_numbers_model.specs.Parts.{part, front, rest, shorn, trimmed, trim, starts}
 use Rattle.idx_lines_model.specs.Answers.{bytes_of, held_part, time_bytes, position_bytes, noted, FoundIn}
-use Rattle.idx_lines_model.specs.Lines.{first_of, last_of, is_filepos, is_other, parts_at}
+use Rattle.idx_lines_model.specs.Lines.{first_such, last_such, is_filepos, is_other, parts_at}
 use Rattle.idx_numbers_model.proofs.Steps.{last-part, next-part, part_in}
 use Rattle.idx_numbers_model.proofs.Loops.{drop-front, front-le, take-shorn, shorn-le}
 use Rattle.idx_lines_model.specs.declared.Found.{Found}
@@ -112,11 +112,11 @@ module _ (s : List ℕ) (i n : ℕ) (inside : i ≤ length s) (lead : n ≡ leng
         -- the parts from i on: this one, and then the rest
         time-step : (at : ℕ) (ps : List Part) → parts_at at (drop i s) ≡ trim (part at bytes) ∷ ps
             → or_else (held_part s f.has_time f.time_from f.time_to) (time_bytes at (drop i s))
-            ≡ or_else (held_part s g.has_time g.time_from g.time_to) (bytes_of (first_of is_other ps))
-        unfolding first_of
+            ≡ or_else (held_part s g.has_time g.time_from g.time_to) (bytes_of (first_such is_other ps))
+        unfolding first_such
         time-step at ps e =
-            rw (e, after, is_filepos_lem at) (ap (or_else (held_part s f.has_time f.time_from f.time_to)) (bytes-first (not r) (trim (part at bytes)) (first_of is_other ps) ∙ ap (λ (x : List ℕ). cond (not r) (some x) (bytes_of (first_of is_other ps))) (trim-bytes at))
-            ∙ go r (bytes_of (first_of is_other ps)))
+            rw (e, after, is_filepos_lem at) (ap (or_else (held_part s f.has_time f.time_from f.time_to)) (bytes-first (not r) (trim (part at bytes)) (first_such is_other ps) ∙ ap (λ (x : List ℕ). cond (not r) (some x) (bytes_of (first_such is_other ps))) (trim-bytes at))
+            ∙ go r (bytes_of (first_such is_other ps)))
           where
             held : (h : Bool) (o : Option (List ℕ))
                 → or_else (held_part s h f.time_from f.time_to) (some (take (i + nb + nk - (i + nb)) (drop (i + nb) s)))
@@ -132,11 +132,11 @@ module _ (s : List ℕ) (i n : ℕ) (inside : i ≤ length s) (lead : n ≡ leng
 
         position-step : (at : ℕ) (ps : List Part) → parts_at at (drop i s) ≡ trim (part at bytes) ∷ ps
             → or_else (position_bytes at (drop i s)) (held_part s f.has_position f.from f.to)
-            ≡ or_else (bytes_of (last_of is_filepos ps)) (held_part s g.has_position g.from g.to)
-        unfolding last_of
+            ≡ or_else (bytes_of (last_such is_filepos ps)) (held_part s g.has_position g.from g.to)
+        unfolding last_such
         position-step at ps e =
-            rw (e, after, is_filepos_lem at) (bytes-or r (trim (part at bytes)) (last_of is_filepos ps) (held_part s f.has_position f.from f.to)
-            ∙ ap (or_else (bytes_of (last_of is_filepos ps))) (ap (λ (x : List ℕ). or_else (cond r (some x) none) (held_part s f.has_position f.from f.to)) (trim-bytes at) ∙ go r))
+            rw (e, after, is_filepos_lem at) (bytes-or r (trim (part at bytes)) (last_such is_filepos ps) (held_part s f.has_position f.from f.to)
+            ∙ ap (or_else (bytes_of (last_such is_filepos ps))) (ap (λ (x : List ℕ). or_else (cond r (some x) none) (held_part s f.has_position f.from f.to)) (trim-bytes at) ∙ go r))
           where
             go : (t : Bool) → or_else (cond t (some (take (i + nb + nk - (i + nb)) (drop (i + nb) s))) none) (held_part s f.has_position f.from f.to)
                 ≡ held_part s (noted f t (i + nb) (i + nb + nk)).has_position (noted f t (i + nb) (i + nb + nk)).from (noted f t (i + nb) (i + nb + nk)).to
@@ -174,9 +174,9 @@ module _ (s : List ℕ) (i n : ℕ) (inside : i ≤ length s) (lead : n ≡ leng
           position = λ at. so_far.position at ∙ position-step (at + i) (parts_at (at + (i + n + 1)) (drop (i + n + 1) s)) (ap (map trim) (next-part comma s i n inside lead at h));
         }
 
-        pub finding-done : length s ≤ i + n → FoundIn s g
-        unfolding parts_at first_of last_of bytes
-        finding-done h = record {
+        pub finding_done : length s ≤ i + n → FoundIn s g
+        unfolding parts_at first_such last_such bytes
+        finding_done h = record {
           time_in = time-bounds;
           position_in = position-bounds;
           time = λ at. sym (so_far.time at ∙ time-step (at + i) [] (ap (map trim) (last-part comma s i n inside lead (at + i) h)) ∙ or_none_lem (held_part s g.has_time g.time_from g.time_to));

@@ -12,7 +12,7 @@ use Rattle.grammar.specs.IndexParts.{colon, letter_x}
 use Rattle.grammar.specs.Index.{size_word, palette_word, timestamp_word, filepos_word, top_side, top_stored, start_of}
 use Rattle.idx_numbers_model.specs.Parts.{trim, split, after, part, strip, front, rest, shorn, all}
 use Rattle.idx_numbers_model.specs.Numbers.{unsigned, position_of, signed, bare}
-use Rattle.idx_lines_model.specs.Lines.{Two, halves, size_or, tokens, fields, steps, first_of, last_of, is_filepos, is_other, parts_at, position_at, by_word, line_of}
+use Rattle.idx_lines_model.specs.Lines.{Two, halves, size_or, tokens, fields, steps, first_such, last_such, is_filepos, is_other, parts_at, position_at, by_word, line_of}
 use mathlib.Core.List.{[], ◌∷◌, ◌++◌}
 use Rattle.grammar.specs.IndexNumbers.{numeral}
 use Rattle.idx_lines_model.proofs.Cards.{past_stored, stamp}
@@ -39,8 +39,8 @@ line-numbered i = go (after size_word i) (after palette_word i) (after timestamp
     go (some r) b c = sides (halves letter_x r)
     go none (some r) c = and_then-numbered TextNumber (need bad_token (tokens 16 r.place r.bytes)) _ (need-numbered TextNumber bad_token (tokens 16 r.place r.bytes) (text-number bad_token refl refl)) (λ ts. tt)
     go none none (some r) =
-        and_then-numbered TextNumber (need no_time (first_of is_other (parts_at r.place r.bytes))) _ (need-numbered TextNumber no_time (first_of is_other (parts_at r.place r.bytes)) (text-number no_time refl refl))
-        (λ t. and_then-numbered TextNumber (need no_position (last_of is_filepos (parts_at r.place r.bytes))) _ (need-numbered TextNumber no_position (last_of is_filepos (parts_at r.place r.bytes)) (text-number no_position refl refl))
+        and_then-numbered TextNumber (need no_time (first_such is_other (parts_at r.place r.bytes))) _ (need-numbered TextNumber no_time (first_such is_other (parts_at r.place r.bytes)) (text-number no_time refl refl))
+        (λ t. and_then-numbered TextNumber (need no_position (last_such is_filepos (parts_at r.place r.bytes))) _ (need-numbered TextNumber no_position (last_such is_filepos (parts_at r.place r.bytes)) (text-number no_position refl refl))
         (λ p. and_then-numbered TextNumber (need bad_time (fields 4 (split colon t.place t.bytes))) _ (need-numbered TextNumber bad_time (fields 4 (split colon t.place t.bytes)) (text-number bad_time refl refl))
         (λ fs. check-numbered TextNumber (steps fs) long_time (position_at i (parts_at r.place r.bytes) fs p) (text-number long_time refl refl)
         (and_then-numbered TextNumber (need bad_position (after filepos_word p)) _ (need-numbered TextNumber bad_position (after filepos_word p) (text-number bad_position refl refl))
@@ -80,5 +80,5 @@ pub orders :
     (stamp
     (49 ∷ 56 ∷ 52 ∷ 52 ∷ 54 ∷ 55 ∷ 52 ∷ 52 ∷ 48 ∷ 55 ∷ 51 ∷ 55 ∷ 48 ∷ 57 ∷ 53 ∷ 53 ∷ 49 ∷ 54 ∷ 49 ∷ 54 ∷ [])))
     ≡ refuse bad_position)
-unfolding line_of strip trim front rest shorn split parts_at first_of last_of fields steps unsigned signed bare all numeral start_of
+unfolding line_of strip trim front rest shorn split parts_at first_such last_such fields steps unsigned signed bare all numeral start_of
 orders = (refl, refl, refl, refl, refl, refl, refl, refl, refl, refl, refl)

@@ -19,7 +19,7 @@ use Rattle.idx_numbers_model.specs.Answers.{value_in}
 use Rattle.idx_numbers_model.specs.Numbers.{position_of, or_else}
 use Rattle.idx_numbers_model.specs.Parts.{part, valued, trim, trimmed, split, strip, moved, after, found}
 use Rattle.idx_lines_model.specs.Answers.{bytes_of, held_part, FoundIn, Value, cued, lean, time_at, time_says, position_then, position_with}
-use Rattle.idx_lines_model.specs.Lines.{first_of, last_of, is_filepos, fields, steps, timestamp_at, is_other, parts_at, position_at}
+use Rattle.idx_lines_model.specs.Lines.{first_such, last_such, is_filepos, fields, steps, timestamp_at, is_other, parts_at, position_at}
 use Rattle.idx_numbers_model.proofs.Grammar.{never}
 use Rattle.idx_numbers_model.proofs.Steps.{found-is}
 use Rattle.idx_lines_model.proofs.Clock.{time-fits}
@@ -41,12 +41,12 @@ no_part : (o : Option Part) → none ≡ bytes_of o → o ≡ none
 no_part none e = refl
 no_part (some q) e = never (cc)
 
-last-passes : (t : Part → Bool) (ps : List Part) (x : Part) → last_of t ps ≡ some x → t x ≡ true
-unfolding last_of
+last-passes : (t : Part → Bool) (ps : List Part) (x : Part) → last_such t ps ≡ some x → t x ≡ true
+unfolding last_such
 last-passes t [] x e = never (cc)
-last-passes t (p ∷ ps) x e = go (last_of t ps) refl (t p) refl (last-passes t ps x) e
+last-passes t (p ∷ ps) x e = go (last_such t ps) refl (t p) refl (last-passes t ps x) e
   where
-    go : (o : Option Part) → last_of t ps ≡ o → (u : Bool) → t p ≡ u → (last_of t ps ≡ some x → t x ≡ true) → or_else o (cond u (some p) none) ≡ some x → t x ≡ true
+    go : (o : Option Part) → last_such t ps ≡ o → (u : Bool) → t p ≡ u → (last_such t ps ≡ some x → t x ≡ true) → or_else o (cond u (some p) none) ≡ some x → t x ≡ true
     go (some y) q u r ih e = ih (q ∙ e)
     go none q true r ih e = let f : p ≡ x = cc in rw f at r
     go none q false r ih e = never (cc)
@@ -75,23 +75,23 @@ module _ (s : List ℕ) (f : Found) (told : FoundIn s f) (i : Part) (at : ℕ) w
 
   pub stamp-no_time : f.has_time ≡ false → refuse no_time ≡ lean (timestamp_at i (part at s))
   stamp-no_time e =
-      let q = no_part (first_of is_other (parts_at at s)) (ap (λ (b : Bool). held_part s b f.time_from f.time_to) (sym e) ∙ told.time at) in
+      let q = no_part (first_such is_other (parts_at at s)) (ap (λ (b : Bool). held_part s b f.time_from f.time_to) (sym e) ∙ told.time at) in
       rw q
 
   module _ (yes : f.has_time ≡ true) where
-    time-of : (q : Part) × (first_of is_other (parts_at at s) ≡ some q) × (q.bytes ≡ time)
+    time-of : (q : Part) × (first_such is_other (parts_at at s) ≡ some q) × (q.bytes ≡ time)
     unfolding time
-    time-of = named (first_of is_other (parts_at at s)) time (ap (λ (b : Bool). held_part s b f.time_from f.time_to) (sym yes) ∙ told.time at)
+    time-of = named (first_such is_other (parts_at at s)) time (ap (λ (b : Bool). held_part s b f.time_from f.time_to) (sym yes) ∙ told.time at)
 
     pub stamp-no_position : f.has_position ≡ false → refuse no_position ≡ lean (timestamp_at i (part at s))
     stamp-no_position e =
-        let q = no_part (last_of is_filepos (parts_at at s)) (ap (λ (b : Bool). held_part s b f.from f.to) (sym e) ∙ told.position at) in
+        let q = no_part (last_such is_filepos (parts_at at s)) (ap (λ (b : Bool). held_part s b f.from f.to) (sym e) ∙ told.position at) in
         rw (time-of.1, q)
 
     module _ (has : f.has_position ≡ true) where
-      place_of : (q : Part) × (last_of is_filepos (parts_at at s) ≡ some q) × (q.bytes ≡ place)
+      place_of : (q : Part) × (last_such is_filepos (parts_at at s) ≡ some q) × (q.bytes ≡ place)
       unfolding place
-      place_of = named (last_of is_filepos (parts_at at s)) place (ap (λ (b : Bool). held_part s b f.from f.to) (sym has) ∙ told.position at)
+      place_of = named (last_such is_filepos (parts_at at s)) place (ap (λ (b : Bool). held_part s b f.from f.to) (sym has) ∙ told.position at)
 
       starts-it : (strip filepos_word place ≡ some (drop 8 place)) × (8 ≤ length place)
       starts-it = found-is filepos_word place (ap (λ (l : List ℕ). found (strip filepos_word l)) (sym place_of.2) ∙ last-passes is_filepos (parts_at at s) place_of.0 place_of.1)

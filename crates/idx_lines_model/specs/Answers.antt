@@ -8,7 +8,7 @@ use Rattle.grammar.specs.Index.{Said, size, palette, timestamp, top_stored, star
 use Rattle.grammar.specs.IndexCues.{some_token, palette_from}
 use Rattle.idx_numbers_model.specs.Parts.{part, front, trimmed, split}
 use Rattle.idx_numbers_model.specs.Numbers.{digits, signed, position_of}
-use Rattle.idx_lines_model.specs.Lines.{palette_at, fields, steps, first_of, last_of, is_filepos, is_other, parts_at, line_of}
+use Rattle.idx_lines_model.specs.Lines.{palette_at, fields, steps, first_such, last_such, is_filepos, is_other, parts_at, line_of}
 use Rattle.idx_lines_model.specs.declared.Line.{Line}
 use Rattle.idx_lines_model.specs.declared.Line.TheVariants as line
 use Rattle.idx_lines_model.specs.declared.Found.{Found}
@@ -57,10 +57,10 @@ bytes_of (some p) = some p.bytes
 
 -- the bytes of the time and of the position, of the parts of s
 abbrev pub time_bytes : ℕ → List ℕ → Option (List ℕ)
-time_bytes at s = bytes_of (first_of is_other (parts_at at s))
+time_bytes at s = bytes_of (first_such is_other (parts_at at s))
 
 abbrev pub position_bytes : ℕ → List ℕ → Option (List ℕ)
-position_bytes at s = bytes_of (last_of is_filepos (parts_at at s))
+position_bytes at s = bytes_of (last_such is_filepos (parts_at at s))
 
 -- what was found so far, and a further part from a up to b
 abbrev pub noted : Found → Bool → ℕ → ℕ → Found

@@ -71,13 +71,13 @@ steps fs =
     && (stays (minutes fs *ℤ pos 60)
     && (stays (seconds fs) && (stays (seconds fs *ℤ pos 1000000) && (stays (field 3 fs *ℤ pos 1000) && stays (start_of fs))))))
 
-unfoldable pub first_of : (Part → Bool) → List Part → Option Part
-first_of t [] = none
-first_of t (p ∷ ps) = cond (t p) (some p) (first_of t ps)
+unfoldable pub first_such : (Part → Bool) → List Part → Option Part
+first_such t [] = none
+first_such t (p ∷ ps) = cond (t p) (some p) (first_such t ps)
 
-unfoldable pub last_of : (Part → Bool) → List Part → Option Part
-last_of t [] = none
-last_of t (p ∷ ps) = or_else (last_of t ps) (cond (t p) (some p) none)
+unfoldable pub last_such : (Part → Bool) → List Part → Option Part
+last_such t [] = none
+last_such t (p ∷ ps) = or_else (last_such t ps) (cond (t p) (some p) none)
 
 -- of a trimmed part
 abbrev pub is_filepos : Part → Bool
@@ -100,8 +100,8 @@ position_at i ps fs p =
 
 abbrev pub timestamp_of : Part → List Part → Res (Option Said)
 timestamp_of i ps =
-    and_then (need no_time (first_of is_other ps))
-    (λ t. and_then (need no_position (last_of is_filepos ps))
+    and_then (need no_time (first_such is_other ps))
+    (λ t. and_then (need no_position (last_such is_filepos ps))
     (λ p. and_then (need bad_time (fields 4 (split colon t.place t.bytes))) (λ fs. check (steps fs) long_time (position_at i ps fs p))))
 
 abbrev pub timestamp_at : Part → Part → Res (Option Said)

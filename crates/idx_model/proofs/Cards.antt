@@ -11,7 +11,7 @@ use Rattle.grammar.specs.Index.{start_of, greys_from}
 use Rattle.grammar.specs.IndexCues.{cues_of_lines, cue_at, duration_of}
 use Rattle.idx_numbers_model.specs.Parts.{strip, trim, front, rest, shorn, split, all}
 use Rattle.idx_numbers_model.specs.Numbers.{unsigned, signed, bare}
-use Rattle.idx_lines_model.specs.Lines.{line_of, parts_at, first_of, last_of, fields, steps}
+use Rattle.idx_lines_model.specs.Lines.{line_of, parts_at, first_such, last_such, fields, steps}
 use Rattle.idx_lines_model.proofs.Cards.{past_stored, stamp}
 use Rattle.grammar.specs.Record.{given}
 use Rattle.clock_model.specs.Answers.{micros}
@@ -29,7 +29,7 @@ one_line = refl
 
 -- the last of two cues, `timestamp:0,filepos:0` and `timestamp:1,filepos:0`, has no duration
 pub last-duration : map_res (λ (p : Picked). p.duration) (pick_of (idx_of (116 ∷ 105 ∷ 109 ∷ 101 ∷ 115 ∷ 116 ∷ 97 ∷ 109 ∷ 112 ∷ 58 ∷ 48 ∷ 44 ∷ 102 ∷ 105 ∷ 108 ∷ 101 ∷ 112 ∷ 111 ∷ 115 ∷ 58 ∷ 48 ∷ 10 ∷ 116 ∷ 105 ∷ 109 ∷ 101 ∷ 115 ∷ 116 ∷ 97 ∷ 109 ∷ 112 ∷ 58 ∷ 49 ∷ 44 ∷ 102 ∷ 105 ∷ 108 ∷ 101 ∷ 112 ∷ 111 ∷ 115 ∷ 58 ∷ 48 ∷ [])) 1) ≡ ok none
-unfolding pick_of idx_in text_in lines_in line_of strip trim front rest shorn split parts_at first_of last_of fields steps unsigned signed bare all numeral start_of cues_of_lines cue_at duration_of
+unfolding pick_of idx_in text_in lines_in line_of strip trim front rest shorn split parts_at first_such last_such fields steps unsigned signed bare all numeral start_of cues_of_lines cue_at duration_of
 last-duration = refl
 
 -- a duration that is not given is 0
@@ -39,7 +39,7 @@ duration-given = (refl, refl, refl, refl)
 
 -- `timestamp:0,filepos:100000000`, and no place: 41, and not 10
 pub large_without_place : idx_in (some 0) (stamp past_stored) ≡ refuse large_position
-unfolding idx_in text_in lines_in line_of strip trim front rest shorn split parts_at first_of last_of fields steps unsigned signed bare all numeral start_of
+unfolding idx_in text_in lines_in line_of strip trim front rest shorn split parts_at first_such last_such fields steps unsigned signed bare all numeral start_of
 large_without_place = refl
 
 -- no bytes and a place in both buffers: one cue, in greys that no line gives

@@ -250,9 +250,9 @@ module _ (text : List ℕ) (i n : ℕ) (inside : i ≤ length text) (lead : n �
           (le_or_lt (length text) (i + n)))
           new
 
-      pub measuring-done : (s : Seen) → r ≡ measured.Saw s → length text ≤ i + n → MeasuredAs cue was (lines_in (some room) 0 (split line_end 0 text)) (measured.Saw s) new
+      pub measuring_done : (s : Seen) → r ≡ measured.Saw s → length text ≤ i + n → MeasuredAs cue was (lines_in (some room) 0 (split line_end 0 text)) (measured.Saw s) new
       unfolding lines_in see_all palette_from
-      measuring-done s e h =
+      measuring_done s e h =
           accepted cue was (lines_in (some room) 0 (split line_end 0 text)) s new (so_far.goes ∙ head-saw [] (last-part line_end text i n inside lead (0 + i) h) s e)
 
       pub measuring-next : (s : Seen) → r ≡ measured.Saw s → i + n < length text → Measuring text room cue was (i + n + 1) s new

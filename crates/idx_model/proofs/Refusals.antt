@@ -10,7 +10,7 @@ use Rattle.grammar.specs.Parts.{Part}
 use Rattle.grammar.specs.IndexParts.{line_end}
 use Rattle.grammar.specs.IndexCues.{cues_of, cue_at}
 use Rattle.idx_numbers_model.specs.Parts.{all, trim, split, strip, front, rest, shorn}
-use Rattle.idx_lines_model.specs.Lines.{line_of, tokens, parts_at, first_of, last_of, fields, steps}
+use Rattle.idx_lines_model.specs.Lines.{line_of, tokens, parts_at, first_such, last_such, fields, steps}
 use Rattle.idx_model.specs.Text.{or_none, cues_in, room_after, room_for, lines_in, low_byte, text_in, idx_in, idx_of}
 use Rattle.idx_model.specs.Answers.{pick_of}
 use Rattle.idx_lines_model.proofs.Refusals.{TextNumber, text-number, line-numbered}
@@ -76,7 +76,7 @@ pub orders :
     -- 2, and then 41: `size:x` before it; and 41, and then 2
     × (idx_in none (115 ∷ 105 ∷ 122 ∷ 101 ∷ 58 ∷ 120 ∷ 10 ∷ stamp past_stored) ≡ refuse bad_width)
     × (idx_in none (stamp past_stored ++ 10 ∷ 115 ∷ 105 ∷ 122 ∷ 101 ∷ 58 ∷ 120 ∷ []) ≡ refuse large_position)
-unfolding idx_in text_in lines_in line_of tokens strip trim front rest shorn split parts_at first_of last_of fields steps unsigned signed bare all numeral start_of
+unfolding idx_in text_in lines_in line_of tokens strip trim front rest shorn split parts_at first_such last_such fields steps unsigned signed bare all numeral start_of
 orders = (refl, refl, refl, refl, refl, refl, refl, refl, refl, refl)
 
 -- and for one cue: a text and the cue
@@ -88,5 +88,5 @@ pub cue-orders :
     -- 41 of a later cue, and of an earlier one, than the one that is asked for
     × (pick_of (idx_of (stamp (48 ∷ []) ++ 10 ∷ stamp past_stored)) 0 ≡ refuse large_position)
     × (pick_of (idx_of (stamp past_stored ++ 10 ∷ stamp (48 ∷ []))) 1 ≡ refuse large_position)
-unfolding pick_of idx_in text_in lines_in line_of tokens strip trim front rest shorn split parts_at first_of last_of fields steps unsigned signed bare all numeral start_of
+unfolding pick_of idx_in text_in lines_in line_of tokens strip trim front rest shorn split parts_at first_such last_such fields steps unsigned signed bare all numeral start_of
 cue-orders = (refl, refl, refl, refl)

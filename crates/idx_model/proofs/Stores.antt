@@ -182,9 +182,9 @@ module _ (text : List ℕ) (i k : ℕ) (inside : i ≤ length text) (lead : k �
           positions_are = so_far.positions_are ∙ positions-after (split line_end (0 + (i + k + 1)) (drop (i + k + 1) text)) d;
         }
 
-    pub filling-done : length text ≤ i + k → CuesStored (lines_with starts₀ positions₀ text) starts₀ positions₀ starts' positions'
+    pub filling_done : length text ≤ i + k → CuesStored (lines_with starts₀ positions₀ text) starts₀ positions₀ starts' positions'
     unfolding lines_in cues_of_lines
-    filling-done h =
+    filling_done h =
         let d = head [] (last-part line_end text i k inside lead (0 + i) h) in
         let z : [] ≡ d.left = ok-injective d.left_found in
         record {

@@ -147,9 +147,9 @@ module _ (id : ℕ → Bool) (f : List ℕ) (x : JoinedAnswer) (at have first se
     unfolding word
     now-word = rw (now-first, now-second)
 
-    pub measuring-done : 2 ≤ have + (e - a) → (t : ℕ) → t ≡ b * 256 + c → t ≤ have + (e - a) → JoinedAnswer.Holds t ≡ x
+    pub measuring_done : 2 ≤ have + (e - a) → (t : ℕ) → t ≡ b * 256 + c → t ≤ have + (e - a) → JoinedAnswer.Holds t ≡ x
     unfolding joined
-    measuring-done k t w l =
+    measuring_done k t w l =
         let s : List ℕ = i.kept ++ slice a e f in
         let m = now-count in
         let g = now-word in

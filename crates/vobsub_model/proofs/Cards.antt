@@ -19,7 +19,7 @@ use Rattle.grammar.specs.Reading.{Shown, wanted, shown, canvas_of}
 use Rattle.grammar.proofs.Readings as readings
 use Rattle.idx_numbers_model.specs.Parts.{strip, trim, front, rest, shorn, split, all}
 use Rattle.idx_numbers_model.specs.Numbers.{unsigned, signed, bare}
-use Rattle.idx_lines_model.specs.Lines.{line_of, parts_at, first_of, last_of, fields, steps}
+use Rattle.idx_lines_model.specs.Lines.{line_of, parts_at, first_such, last_such, fields, steps}
 use Rattle.idx_model.specs.Text.{lines_in, text_in, idx_in}
 use Rattle.idx_model.specs.Answers.{cue_answer}
 use Rattle.ps_model.specs.Packets.{is_bare, form_at}
@@ -38,7 +38,7 @@ use Rattle.vobsub_model.specs.declared.Shown.{Shown as Recorded}
 
 -- `timestamp:0,filepos:0` and the unit `00 04 00 04`, with a map of one pixel and its canvas, are not refused
 pub least-title : refusal_of (reading_in (116 ∷ 105 ∷ 109 ∷ 101 ∷ 115 ∷ 116 ∷ 97 ∷ 109 ∷ 112 ∷ 58 ∷ 48 ∷ 44 ∷ 102 ∷ 105 ∷ 108 ∷ 101 ∷ 112 ∷ 111 ∷ 115 ∷ 58 ∷ 48 ∷ []) (0x00 ∷ 0x04 ∷ 0x00 ∷ 0x04 ∷ []) (wanted 0 0) (lent [] (9 ∷ []) (9 ∷ 9 ∷ 9 ∷ 9 ∷ []))) ≡ 0
-unfolding reading_in listed_in times_stay found_for canvas_in few_at idx_in text_in lines_in line_of strip trim front rest shorn split parts_at first_of last_of fields steps unsigned signed bare all numeral start_of cues_of_lines cue_at unit_at form_at is_bare unit_of word rows_at fields_at lower_at field_at row_at code_at code_from rows_from weave paints after_codes align top_end list_from list_fuel nibbles nibble plain_at change_at order_at command_at commands_at block_at blocks_at head_fits chain_at control_at told commands_of commands_in first_delay last_delay last_numbers stands all_bands
+unfolding reading_in listed_in times_stay found_for canvas_in few_at idx_in text_in lines_in line_of strip trim front rest shorn split parts_at first_such last_such fields steps unsigned signed bare all numeral start_of cues_of_lines cue_at unit_at form_at is_bare unit_of word rows_at fields_at lower_at field_at row_at code_at code_from rows_from weave paints after_codes align top_end list_from list_fuel nibbles nibble plain_at change_at order_at command_at commands_at block_at blocks_at head_fits chain_at control_at told commands_of commands_in first_delay last_delay last_numbers stands all_bands
 least-title = refl
 
 -- the canvas of the 2 by 2 title, from its reading and from its unit

@@ -35,7 +35,7 @@ use Rattle.grammar.specs.IndexNumbers.{numeral}
 use Rattle.grammar.specs.Index.{start_of}
 use Rattle.idx_numbers_model.specs.Parts.{strip, trim, front, rest, shorn, split, all}
 use Rattle.idx_numbers_model.specs.Numbers.{unsigned, signed, bare}
-use Rattle.idx_lines_model.specs.Lines.{line_of, tokens, parts_at, first_of, last_of, fields, steps}
+use Rattle.idx_lines_model.specs.Lines.{line_of, tokens, parts_at, first_such, last_such, fields, steps}
 use Rattle.ps_model.specs.OnePacket.{packet_at, kind_at, private_at, pack_at, kept_at, body_at, header_at, header1_at, leading}
 use Rattle.ps_model.specs.Packets.{form_at, is_bare, packets_at}
 use Rattle.bands_model.specs.Bands.{bands_of, entries_of, header, entry_of}
@@ -97,7 +97,7 @@ pub orders :
     × (found_for (stamp (48 ∷ []) ++ 10 ∷ stamp past_stored) [] (wanted 0 0) 0 ≡ refuse large_position)
     -- 14, and 15: a packet that keeps a unit of 3 bytes, and 2 bytes of scratch
     × (found_for (116 ∷ 105 ∷ 109 ∷ 101 ∷ 115 ∷ 116 ∷ 97 ∷ 109 ∷ 112 ∷ 58 ∷ 48 ∷ 44 ∷ 102 ∷ 105 ∷ 108 ∷ 101 ∷ 112 ∷ 111 ∷ 115 ∷ 58 ∷ 48 ∷ []) (0x00 ∷ 0x00 ∷ 0x01 ∷ 0xBD ∷ 0x00 ∷ 0x07 ∷ 0x80 ∷ 0x00 ∷ 0x00 ∷ 0x20 ∷ 0x00 ∷ 0x03 ∷ 0x00 ∷ []) (wanted 0 0) 2 ≡ refuse short_scratch)
-unfolding found_for unit_at form_at is_bare packets_at packet_at kind_at private_at pack_at kept_at body_at header_at header1_at leading list_from list_fuel word joined unit_of idx_in text_in lines_in line_of tokens strip trim front rest shorn split parts_at first_of last_of fields steps unsigned signed bare all numeral start_of cues_of_lines cue_at
+unfolding found_for unit_at form_at is_bare packets_at packet_at kind_at private_at pack_at kept_at body_at header_at header1_at leading list_from list_fuel word joined unit_of idx_in text_in lines_in line_of tokens strip trim front rest shorn split parts_at first_such last_such fields steps unsigned signed bare all numeral start_of cues_of_lines cue_at
 orders = (refl, refl, refl, refl, refl, refl, refl, refl, refl, refl, refl, refl, refl)
 
 -- a unit with one byte of field and one block, of these bytes after its head

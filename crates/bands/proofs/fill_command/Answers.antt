@@ -1,7 +1,7 @@
 -- `bands::fill_command` meets its contract: by its byte. Assumes nothing.
 use native.Mathlib.Omega.{arith}
 use Prim.Native.Nat.{◌+◌}
-use Rattle.control_model.proofs.Fill.{order_changes, order-plain, plain-filled}
+use Rattle.control_model.proofs.Fill.{order_changes, order-plain, plain_filled}
 use mathlib.Core.Path.{ap}
 use Rattle.grammar.specs.Control.{size_of}
 use Rattle.control_model.proofs.Grammar.{order_sound}
@@ -19,4 +19,4 @@ overflow_add-result c =
     omega (arith, w, q, c.taken-size.ensures c.args.unit.now (c.args.at + 1))
 
 pub returns : goal.returns
-returns c = λ o e. plain-filled c.args.unit.now c.args.end (c.args.at + 1) _ _ _ o _ c.requires.1 (omega arith) (c.taken-size.ensures _ _) e
+returns c = λ o e. plain_filled c.args.unit.now c.args.end (c.args.at + 1) _ _ _ o _ c.requires.1 (omega arith) (c.taken-size.ensures _ _) e

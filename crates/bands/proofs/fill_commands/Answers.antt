@@ -1,6 +1,6 @@
 -- `bands::fill_commands` meets its contract: each turn stores one command's words. Assumes nothing.
 use native.Mathlib.Omega.{arith}
-use Rattle.control_model.proofs.Fill.{filling-starts, filling_has, filling-falls, filling_goes, filling_ends}
+use Rattle.control_model.proofs.Fill.{filling-starts, filling_has, filling_falls, filling_goes, filling_ends}
 use Rattle.bands.proofs.fill_commands.Goals as goal
 
 pub loop-at-init : goal.loop-at-init
@@ -18,7 +18,7 @@ fill_command-next-requires c =
 
 pub loop-at-smaller : goal.loop-at-smaller
 loop-at-smaller c =
-    omega (arith, (filling-falls _ _ _ _ _ c.requires.0 _ _ _ c.loop-at.invariant c.loop-at-test.true c.if-unit-at.false _ _ c.fill_command-next.ensures).0, (filling-falls _ _ _ _ _ c.requires.0 _ _ _ c.loop-at.invariant c.loop-at-test.true c.if-unit-at.false _ _ c.fill_command-next.ensures).1)
+    omega (arith, (filling_falls _ _ _ _ _ c.requires.0 _ _ _ c.loop-at.invariant c.loop-at-test.true c.if-unit-at.false _ _ c.fill_command-next.ensures).0, (filling_falls _ _ _ _ _ c.requires.0 _ _ _ c.loop-at.invariant c.loop-at-test.true c.if-unit-at.false _ _ c.fill_command-next.ensures).1)
 
 pub loop-at-preserved : goal.loop-at-preserved
 loop-at-preserved c = filling_goes _ _ _ _ _ c.requires.0 _ _ _ c.loop-at.invariant c.loop-at-test.true c.if-unit-at.false _ _ c.fill_command-next.ensures

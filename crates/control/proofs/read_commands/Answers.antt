@@ -1,7 +1,7 @@
 -- `control::read_commands` meets its contract: each turn is one command more. Assumes nothing.
 use native.Mathlib.Omega.{arith}
 use mathlib.Core.Path.{sym, ◌∙◌}
-use Rattle.control_model.proofs.Loops.{commanding-starts, commanding-falls, commanding_goes, commanding_ends, commanding_refuses}
+use Rattle.control_model.proofs.Loops.{commanding-starts, commanding_falls, commanding_goes, commanding_ends, commanding_refuses}
 use Rattle.control.proofs.read_commands.Goals as goal
 
 pub loop-at-init : goal.loop-at-init
@@ -15,7 +15,7 @@ read_command-requires c = (c.loop-at-test.true, c.requires.2, omega (arith, c.lo
 
 pub loop-at-smaller : goal.loop-at-smaller
 loop-at-smaller c =
-    omega (arith, (commanding-falls _ _ _ _ _ c.requires.2 _ _ c.loop-at.invariant _ _ (λ t e. sym c.in-Next.is ∙ c.read_command.ensures t e) c.requires.0).0, (commanding-falls _ _ _ _ _ c.requires.2 _ _ c.loop-at.invariant _ _ (λ t e. sym c.in-Next.is ∙ c.read_command.ensures t e) c.requires.0).1)
+    omega (arith, (commanding_falls _ _ _ _ _ c.requires.2 _ _ c.loop-at.invariant _ _ (λ t e. sym c.in-Next.is ∙ c.read_command.ensures t e) c.requires.0).0, (commanding_falls _ _ _ _ _ c.requires.2 _ _ c.loop-at.invariant _ _ (λ t e. sym c.in-Next.is ∙ c.read_command.ensures t e) c.requires.0).1)
 
 pub loop-at-preserved : goal.loop-at-preserved
 loop-at-preserved c =

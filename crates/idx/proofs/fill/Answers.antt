@@ -1,7 +1,7 @@
 -- `idx::fill` meets its contract: each turn is one line more. Assumes nothing.
 use native.Mathlib.Omega.{arith}
 use Rattle.idx_model.proofs.Loops.{line-in}
-use Rattle.idx_model.proofs.Stores.{filling-starts, fill_fits, filling-next, filling-done, long-starts, long_positions}
+use Rattle.idx_model.proofs.Stores.{filling-starts, fill_fits, filling-next, filling_done, long-starts, long_positions}
 use Rattle.idx.proofs.fill.Goals as goal
 
 pub loop-palette-init : goal.loop-palette-init
@@ -42,7 +42,7 @@ shape_of-positions-then-e-text c =
 
 pub returns-then-e-text : goal.returns-then-e-text
 returns-then-e-text c =
-    filling-done c.args.text.now c.loop-palette.i c.until.result c.loop-palette.invariant.inside c.until.ensures c.trim-l.result.now c.trim-l.ensures _ _ c.read_line-line.result c.read_line-line.ensures c.args.starts.now c.args.positions.now c.loop-palette.starts c.loop-palette.positions c.loop-palette.n c.loop-palette.invariant _ _ _ c.store_cue-n.ensures c.if-e-text.true
+    filling_done c.args.text.now c.loop-palette.i c.until.result c.loop-palette.invariant.inside c.until.ensures c.trim-l.result.now c.trim-l.ensures _ _ c.read_line-line.result c.read_line-line.ensures c.args.starts.now c.args.positions.now c.loop-palette.starts c.loop-palette.positions c.loop-palette.n c.loop-palette.invariant _ _ _ c.store_cue-n.ensures c.if-e-text.true
 
 pub overflow_add-i : goal.overflow_add-i
 overflow_add-i c = omega (arith, c.if-e-text.false)

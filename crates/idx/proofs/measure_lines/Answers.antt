@@ -1,7 +1,7 @@
 -- `idx::measure_lines` meets its contract: each turn is one line more. Assumes nothing.
 use native.Mathlib.Omega.{arith}
 use mathlib.Core.Path.{refl}
-use Rattle.idx_model.proofs.Loops.{measuring-starts, measuring_refused, measuring-done, measuring-next, line-in}
+use Rattle.idx_model.proofs.Loops.{measuring-starts, measuring_refused, measuring_done, measuring-next, line-in}
 use Rattle.idx.proofs.measure_lines.Goals as goal
 
 pub loop-n-init : goal.loop-n-init
@@ -34,7 +34,7 @@ returns-in-Refused c =
 
 pub returns-then-e-text : goal.returns-then-e-text
 returns-then-e-text c =
-    measuring-done c.args.text.now c.loop-n.i c.until.result c.loop-n.invariant.inside c.until.ensures c.trim-l.result.now c.trim-l.ensures c.args.room c.args.cue c.args.palette.now c.loop-n.seen c.loop-n.palette c.loop-n.invariant c.read_line-line.result _ c.read_line-line.ensures c.seen_line.result c.seen_line.ensures _ c.in-Saw.is c.if-e-text.true
+    measuring_done c.args.text.now c.loop-n.i c.until.result c.loop-n.invariant.inside c.until.ensures c.trim-l.result.now c.trim-l.ensures c.args.room c.args.cue c.args.palette.now c.loop-n.seen c.loop-n.palette c.loop-n.invariant c.read_line-line.result _ c.read_line-line.ensures c.seen_line.result c.seen_line.ensures _ c.in-Saw.is c.if-e-text.true
 
 pub overflow_add-i : goal.overflow_add-i
 overflow_add-i c = omega (arith, c.if-e-text.false)

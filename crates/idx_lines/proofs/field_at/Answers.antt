@@ -1,7 +1,7 @@
 -- `idx_lines::field_at` meets its contract: by its first byte. Assumes nothing.
 use native.Mathlib.Omega.{arith}
 use mathlib.Core.Path.{refl}
-use Rattle.idx_lines_model.proofs.Fields.{field-missing, field-empty, plain-bad, plain-good, counted-most, counted_in_lem}
+use Rattle.idx_lines_model.proofs.Fields.{field-missing, field-empty, plain_bad, plain_good, counted-most, counted_in_lem}
 use Rattle.idx_lines.proofs.field_at.Goals as goal
 
 pub returns-then-i-s : goal.returns-then-i-s
@@ -24,7 +24,7 @@ count_at-requires c = (omega arith, omega arith)
 
 pub returns-in_default : goal.returns-in_default
 returns-in_default c =
-    plain-bad c.args.s.now c.args.i (omega arith) (λ e. omega (arith, c.if-s-i-lt48.false)) (λ e. omega (arith, c.if-s-i-lt48.false)) c.count_at.result _ c.count_at.ensures refl c.in_default.is
+    plain_bad c.args.s.now c.args.i (omega arith) (λ e. omega (arith, c.if-s-i-lt48.false)) (λ e. omega (arith, c.if-s-i-lt48.false)) c.count_at.result _ c.count_at.ensures refl c.in_default.is
 
 pub overflow_cast-result : goal.overflow_cast-result
 overflow_cast-result c = omega (arith, counted-most c.args.s.now _ _ c.count_at.result c.count_at.ensures _ _ c.in-Is.is)
@@ -34,4 +34,4 @@ overflow_add-result c = omega (arith, counted_in_lem c.args.s.now _ _ c.count_at
 
 pub returns : goal.returns
 returns c =
-    plain-good c.args.s.now c.args.i (omega arith) (λ e. omega (arith, c.if-s-i-lt48.false)) (λ e. omega (arith, c.if-s-i-lt48.false)) c.count_at.result _ c.count_at.ensures refl _ _ c.in-Is.is
+    plain_good c.args.s.now c.args.i (omega arith) (λ e. omega (arith, c.if-s-i-lt48.false)) (λ e. omega (arith, c.if-s-i-lt48.false)) c.count_at.result _ c.count_at.ensures refl _ _ c.in-Is.is

@@ -1,7 +1,7 @@
 -- `idx_lines::find_parts` meets its contract: each turn is one part more. Assumes nothing.
 use native.Mathlib.Omega.{arith}
 use mathlib.Core.Path.{refl}
-use Rattle.idx_lines_model.proofs.Places.{finding-starts, finding-next, finding-done, end_in, blanks_in, kept_in}
+use Rattle.idx_lines_model.proofs.Places.{finding-starts, finding-next, finding_done, end_in, blanks_in, kept_in}
 use Rattle.idx_lines.proofs.find_parts.Goals as goal
 
 pub loop-f-init : goal.loop-f-init
@@ -60,7 +60,7 @@ slice_bounds-is_filepos-end c =
 
 pub returns-then-e-s : goal.returns-then-e-s
 returns-then-e-s c =
-    finding-done c.args.s.now c.loop-f.i c.until.result c.loop-f.invariant.inside c.until.ensures c.blanks.result c.blanks.ensures c.kept.result c.kept.ensures c.is_filepos-is_position.result c.is_filepos-is_position.ensures c.loop-f.f c.loop-f.invariant c.noted-f.result c.noted-f.ensures c.if-e-s.true
+    finding_done c.args.s.now c.loop-f.i c.until.result c.loop-f.invariant.inside c.until.ensures c.blanks.result c.blanks.ensures c.kept.result c.kept.ensures c.is_filepos-is_position.result c.is_filepos-is_position.ensures c.loop-f.f c.loop-f.invariant c.noted-f.result c.noted-f.ensures c.if-e-s.true
 
 pub overflow_add-i : goal.overflow_add-i
 overflow_add-i c = omega (arith, c.if-e-s.false)

@@ -2,7 +2,7 @@
 use native.Mathlib.Omega.{arith}
 use Rattle.grammar.specs.Packets.{is_id}
 use Rattle.ps_model.proofs.Read.{Told, keeps-told, passes-told, refused-told}
-use Rattle.ps_model.proofs.Loops.{measuring-starts, measuring_refused, measuring_passes, measuring-done, measuring_few, measuring_more}
+use Rattle.ps_model.proofs.Loops.{measuring-starts, measuring_refused, measuring_passes, measuring_done, measuring_few, measuring_more}
 use Rattle.ps.proofs.measure_packets.Goals.{In-Keeps, In-Passes}
 use Rattle.ps.proofs.measure_packets.Goals as goal
 
@@ -45,7 +45,7 @@ overflow_add-have c =
 
 pub returns-then-t-have : goal.returns-then-t-have
 returns-then-t-have c =
-    measuring-done _ _ _ _ _ _ _ c.loop-n.invariant _ _ (keeps (goal.at.returns-then-t-have c).In-Keeps) _ _ c.joined_byte-first.ensures c.joined_byte-second.ensures c.if-have-ge2.true _
+    measuring_done _ _ _ _ _ _ _ c.loop-n.invariant _ _ (keeps (goal.at.returns-then-t-have c).In-Keeps) _ _ c.joined_byte-first.ensures c.joined_byte-second.ensures c.if-have-ge2.true _
     c.word_of-t.ensures c.if-t-have.true
 
 pub loop-n-smaller-else-t-have : goal.loop-n-smaller-else-t-have
