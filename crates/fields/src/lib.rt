@@ -119,7 +119,7 @@ fn decode_over(
     pixels: &mut [u8],
 ) -> FieldAnswer
     requires both_fit { BothFit (length pixels.old) width rows more }
-    requires counted { Counted lower.now width more counts × Ready lower.now width more counts.codes kept.now }
+    requires measured { Counted lower.now width more counts × Ready lower.now width more counts.codes kept.now }
     ensures { BothDecoded width (part_rows upper.now width rows) (part_rows lower.now width more) pixels.old result pixels.new }
 {
     match decode_sized(upper, width, rows, 0, pixels) {

@@ -114,7 +114,7 @@ fn list_title(rt: &(impl Files + Print), index: &[u8], file: &[u8]) {
     write_cues(rt, &bytes[..m], &starts, &positions, head.cues);
 }
 
-// How many bytes argument i has in the front of the buffer: none where it is longer than that, and nothing where there is no such argument.
+// How many bytes of the buffer argument i takes: 0 where it is longer than the buffer, and `None` where there is no such argument.
 fn argument(rt: &impl Env, i: usize, buffer: &mut [u8]) -> Option<usize>
     ensures { IfSome result (λ n. n ≤ length buffer.new) }
 {

@@ -8,7 +8,7 @@ ghost use Rattle.rle_model.specs.Nibbles.{nibble_at, nibble_answer, past_nibble,
 use outcome::FIELD_RAN_OUT;
 use rle_model::Nibble;
 
-#[derive(Clone, Copy)]
+#[derive(Drop)]
 pub struct NibbleReader<'a> {
     pub buf: &'a [u8],
     // How many half bytes were read.

@@ -1,5 +1,5 @@
 // Replays the fixed list of the oracle's answers (standard input; oracle/src/bin/list.rs makes it and says how it is laid out) through the
-// exported functions, and writes a line for each class: how many rows there are, and how many are answered otherwise.
+// functions of `vobsub_c`, and writes a line for each class: how many rows there are, and how many are answered otherwise.
 #![tactic(auto)]
 
 use std::io::Read;

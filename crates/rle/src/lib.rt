@@ -103,8 +103,8 @@ pub fn fill_run(pixels: &mut [u8], start: usize, count: usize, colour: u8)
 
 // A row whose codes are all there, painted from place `start` on; answers the place after its codes.
 fn fill_row(field: &[u8], c: Cursor, width: usize, start: usize, pixels: &mut [u8]) -> Cursor
-    requires width_in_bounds { start + width ≤ length pixels.old }
-    requires ok { IsOk (row_at field.now (length field.now) width c.pos) }
+    requires room { start + width ≤ length pixels.old }
+    requires there { IsOk (row_at field.now (length field.now) width c.pos) }
     ensures { RowFilled field.now width c.pos start pixels.old result pixels.new }
 {
     let mut pos = c.pos;
@@ -172,8 +172,8 @@ pub fn measure_field(field: &[u8], width: usize, rows: usize) -> FieldAnswer
 
 // A field whose codes are all there, painted: its first row from place `start` on, each next one two rows on.
 fn fill_field(field: &[u8], width: usize, rows: usize, start: usize, pixels: &mut [u8])
-    requires width_in_bounds { start + rows * (2 * width) ≤ length pixels.old + width }
-    requires ok { IsOk (field_at field.now (length field.now) width rows 0) }
+    requires room { start + rows * (2 * width) ≤ length pixels.old + width }
+    requires there { IsOk (field_at field.now (length field.now) width rows 0) }
     ensures { pixels.new ≡ paint_field width start (listed (field_at field.now (length field.now) width rows 0)) pixels.old }
 {
     if width == 0 {

@@ -1,4 +1,4 @@
-// Runs rows through the exported functions, and writes a line for each: the function, the row's name, its answer, and
+// Runs rows through the functions of `vobsub_c`, and writes a line for each: the function, the row's name, its answer, and
 // the memory lent for it, with `.` for what is as found: bytes of 237, words of EEEE, starts of -77, positions of
 // EDEDEDED; for decode_rle_field both numbers of codes, of 77; for a refused decode_cue times of -77 and numbers of 77.
 // A line of standard input is a row: the function, its name, its numbers, its bytes, and for decode_cue the bytes of

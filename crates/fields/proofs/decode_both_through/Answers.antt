@@ -8,7 +8,7 @@ pub decode_over-requires : goal.decode_over-requires
 decode_over-requires c =
     let m = c.measure_kept.ensures in
     let a = sym c.in-Rows.is ∙ m.answer in
-    record { both_fit = c.requires; counted = (a, ready _ _ _ _ _ _ a m.keeps) }
+    record { both_fit = c.requires; measured = (a, ready _ _ _ _ _ _ a m.keeps) }
 
 pub returns-in-Refused : goal.returns-in-Refused
 returns-in-Refused c = lower_refused _ _ _ _ _ _ _ (sym c.in-Refused.is ∙ c.measure_kept.ensures.answer)

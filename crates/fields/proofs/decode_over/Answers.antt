@@ -7,12 +7,12 @@ use Rattle.fields.proofs.decode_over.Goals as goal
 pub plus_counts-requires : goal.plus_counts-requires
 plus_counts-requires c =
     let p = c.requires in
-    sum_fits _ _ _ _ _ _ _ _ (sym c.in-Rows.is ∙ c.decode_sized.ensures.answer) p.counted.0 p.both_fit (omega arith)
+    sum_fits _ _ _ _ _ _ _ _ (sym c.in-Rows.is ∙ c.decode_sized.ensures.answer) p.measured.0 p.both_fit (omega arith)
 
 pub returns-in-Rows : goal.returns-in-Rows
 returns-in-Rows c =
     let d = c.decode_sized.ensures in
-    lower-painted _ _ _ _ _ _ _ _ _ _ _ (sym c.in-Rows.is ∙ d.answer) c.requires.counted.0 c.plus_counts.ensures d.pixels c.fill_measured.ensures
+    lower-painted _ _ _ _ _ _ _ _ _ _ _ (sym c.in-Rows.is ∙ d.answer) c.requires.measured.0 c.plus_counts.ensures d.pixels c.fill_measured.ensures
 
 pub returns-in-Refused : goal.returns-in-Refused
 returns-in-Refused c =

@@ -13,13 +13,13 @@ returns-then-width-eq0 c = blank-kept _ _ _ _ _ _ c.if-width-eq0.true
 
 pub loop-left-init : goal.loop-left-init
 loop-left-init c =
-    record { wide = omega arith; room = c.requires.width_in_bounds; long = refl; there = c.requires.ok; goes = refl }
+    record { wide = omega arith; room = c.requires.room; long = refl; there = c.requires.there; goes = refl }
 
 pub fill_row-next-requires : goal.fill_row-next-requires
 fill_row-next-requires c =
     let i = c.loop-left in
     let m = mul_pred i.left (2 * c.args.width) (omega arith) in
-    record { width_in_bounds = omega (arith, m, i.invariant.room, i.invariant.long); ok = row-there _ _ _ _ _ c.loop-left-test.true i.invariant.there }
+    record { room = omega (arith, m, i.invariant.room, i.invariant.long); there = row-there _ _ _ _ _ c.loop-left-test.true i.invariant.there }
 
 ends : (c : After-fill_row-next) → c.fill_row-next.result.pos ≤ 2 * length c.args.field.now
 ends c =

@@ -11,4 +11,4 @@ pub returns-then-width-lt-WIDEST : goal.returns-then-width-lt-WIDEST
 returns-then-width-lt-WIDEST c = kept-pixels _ _ _ _ _ c.if-width-lt-WIDEST.true c.requires.2 c.if-codes-kept.true _ _ _ c.fill_kept.ensures
 
 pub fill_field-requires : goal.fill_field-requires
-fill_field-requires c = record { width_in_bounds = c.requires.1; ok = c.requires.2.there }
+fill_field-requires c = record { room = c.requires.1; there = c.requires.2.there }

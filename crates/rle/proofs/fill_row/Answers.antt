@@ -12,7 +12,7 @@ use Rattle.rle.proofs.fill_row.Goals.{In-Got}
 use Rattle.rle.proofs.fill_row.Goals as goal
 
 pub loop-left-init : goal.loop-left-init
-loop-left-init c = record { fits = refl; long = refl; there = c.requires.ok; ends = refl; goes = refl }
+loop-left-init c = record { fits = refl; long = refl; there = c.requires.there; ends = refl; goes = refl }
 
 pub read_code-requires : goal.read_code-requires
 read_code-requires c = omega arith
