@@ -17,6 +17,7 @@ pub struct NibbleReader<'a> {
 
 // The nibble at half byte pos, or 26 where the field ran out.
 // Ruled out: the low half of a byte first; a nibble past the field's end.
+#[tactic(auto, using(crate::proofs::Steps::high))]
 pub fn nibble_at(field: &[u8], pos: usize) -> Nibble
     ensures { result ≡ nibble_answer (nibble_at field.now pos) }
 {

@@ -69,11 +69,11 @@ returns-then-body-id c =
     let ends : (c.args.at + 6 + c.args.size) ≡ length_end c.args.file.now c.args.at = let n = c.requires.1 in omega arith in
     private_keeps (is_id c.args.id) c.args.file.now c.args.at ((c.args.at + 6 + c.args.size)) (ends) (inside (goal.at.returns-then-body-id c).Else-file-start) _ _ _
     (part_slice (c.args.at + 6) ((c.args.at + 6 + c.args.size)) c.args.file.now) c.parse_pes_body-body.ensures.0 c.parse_pes_body-body.ensures.1 (not-false _ c.if-not-found.false-raw)
-    (omega (arith, c.if-body-eq0.false)) (eq-eqb _ _ c.if-body-id.true)
+    (omega (arith, c.if-body-eq0.false)) (eq-eqb _ _ (omega (arith, c.if-body-id.true)))
 
 pub returns : goal.returns
 returns c =
     let ends : (c.args.at + 6 + c.args.size) ≡ length_end c.args.file.now c.args.at = let n = c.requires.1 in omega arith in
     private_other (is_id c.args.id) c.args.file.now c.args.at ((c.args.at + 6 + c.args.size)) (ends) (inside (goal.at.returns c).Else-file-start) _ _ _
     (part_slice (c.args.at + 6) ((c.args.at + 6 + c.args.size)) c.args.file.now) c.parse_pes_body-body.ensures.0 c.parse_pes_body-body.ensures.1 (not-false _ c.if-not-found.false-raw)
-    (omega (arith, c.if-body-eq0.false)) (ne_eqb _ _ c.if-body-id.false)
+    (omega (arith, c.if-body-eq0.false)) (ne_eqb _ _ (λ e. omega (arith, e, c.if-body-id.false)))
