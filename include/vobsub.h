@@ -3,7 +3,8 @@
 
    A pointer that has a length beside it may be null where that length is 0. Where it is said how much stack a function takes, a thread whose
    stack is sized to that figure needs 8 KiB more, for the C library: with glibc 2.36 it keeps 4,464 bytes there, and takes 3,040 more where a
-   first call of memset or memcpy is bound (bench/stack/run). The figures of stack are of builds by an older kit. */
+   first call of memset or memcpy is bound (bench/stack/run). The figures of stack were measured on builds by an
+   older kit; bench/stack/run fails where a build takes more. */
 #ifndef VOBSUB_H
 #define VOBSUB_H
 

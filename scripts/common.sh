@@ -70,7 +70,7 @@ is_made() { # NAME FILE
     [ "$sums" = "$(made_from "$1") $(sha256sum < "$2")" ]
 }
 
-# Puts what rt made where it is kept, with its record. rt ci moves away what rt left in a crate.
+# Puts what rt made where it is kept, with its record. rt ci takes programs and archives out of a crate's out.
 keep() { # MADE FILE SUM
     mkdir -p -- "${2%/*}" && rm -f -- "$2.sums" && cp -- "$1" "$2.new" && mv -f -- "$2.new" "$2" && record "$2" "$3"
 }
