@@ -1,16 +1,15 @@
 -- Closed inputs on which each edit of this crate's definitions gives another value. Assumes nothing.
 use mathlib.Core.Path.{◌≡◌, refl}
 use mathlib.Core.Bool.{true}
-use mathlib.Core.Option.{some}
+use Rattle.std.specs.Prelude.{Some as some}
 use Prim.Native.Nat.{ℕ}
 use mathlib.Core.List.{List, [], ◌∷◌}
 use lib.ListN.{length, get_or, replicate}
 use Rattle.outcome.specs.Outcome.{ok, refuse, no_band_list, many_bands}
-use Rattle.bands_model.specs.Bands.{header, entry_of, bands_of, entries_of}
+use Rattle.bands_model.specs.Bands.{header, entry_of, got, bands_of, entries_of}
 use Rattle.bands_model.specs.Count.{counting, bands_held}
 use Rattle.bands_model.specs.Answers.{padded, stored, array_after}
 use Rattle.bands_model.specs.Look.{look, looking, look_words, spanning, spans_line}
-use Rattle.bands_model.specs.declared.EntryRead.TheVariants as E
 
 -- a band of two entries at the same column is none
 pub equal_columns : bands_of (0 ∷ 0 ∷ 32 ∷ 0 ∷ 0 ∷ 1 ∷ 0 ∷ 0 ∷ 0 ∷ 0 ∷ 0 ∷ 1 ∷ 0 ∷ 0 ∷ 0 ∷ 0 ∷ []) ≡ refuse no_band_list
@@ -52,6 +51,6 @@ unfolding spans_line spanning
 second-band = refl
 
 -- an entry at column 1 with selectors 0 1 2 3 and alphas 4 5 6 7
-pub entry_words_lem : entry_of (0x00 ∷ 0x01 ∷ 0x01 ∷ 0x23 ∷ 0x45 ∷ 0x67 ∷ []) 0 ≡ E.Got 1 0x0123 0x4567
+pub entry_words_lem : entry_of (0x00 ∷ 0x01 ∷ 0x01 ∷ 0x23 ∷ 0x45 ∷ 0x67 ∷ []) 0 ≡ got 1 0x0123 0x4567
 unfolding entry_of
 entry_words_lem = refl

@@ -15,7 +15,6 @@ use Rattle.bands_model.specs.Bands.{bands_of}
 use Rattle.bands_model.specs.Count.{bands_held}
 use Rattle.bands_model.specs.Answers.{count_of, stored, array_after, Stored}
 use Rattle.bands_model.specs.Claim.{PayloadBands, TooMany, Says}
-use Rattle.bands_model.specs.declared.BandAnswer.{BandAnswer}
 use Rattle.bands_model.proofs.Grammar.{listed-words, words-listed}
 use Rattle.bands_model.proofs.Refusals.{bands-refuses}
 use Rattle.bands_model.proofs.Look.{bands-counted}
@@ -28,14 +27,14 @@ words_of s bs h = words-listed s (band_words bs) (record { bands = bs; is = h; w
 held_of : (s : List ℕ) (bs : List Band) → PayloadBands s bs → bands_held (band_words bs) ≡ length bs
 held_of s bs h = bands_held_lem bs (bands-counted s (length s) 0 bs h)
 
-pub claim : (s : List ℕ) → ((i : ℕ) → byte s i < 256) → (ws : List ℕ) (r : BandAnswer) (ws' : List ℕ)
+pub claim : (s : List ℕ) → ((i : ℕ) → byte s i < 256) → (ws : List ℕ) (r : Res ℕ) (ws' : List ℕ)
     → Stored s ws r ws' → Says s ws ws' r
 unfolding stored
 claim s small ws r ws' d = go (bands_of s) refl
   where
     -- the answer and the array of what is found
     by : (v : Res (List ℕ)) → stored s ≡ v → (ws' ≡ array_after ws v → Says s ws ws' (count_of 0 v)) → Says s ws ws' r
-    by v q f = subst (λ (x : BandAnswer). Says s ws ws' x) (sym (d.answer ∙ ap (count_of 0) q)) (f (d.words ∙ ap (array_after ws) q))
+    by v q f = subst (λ (x : Res ℕ). Says s ws ws' x) (sym (d.answer ∙ ap (count_of 0) q)) (f (d.words ∙ ap (array_after ws) q))
 
     go : (v : Res (List ℕ)) → bands_of s ≡ v → Says s ws ws' r
     go (refuse k) q = by (refuse k) (rw q) (λ f. (f, inl (bands-refuses s k q, λ bs h. ok-not-refuse (sym q ∙ words_of s bs h))))
@@ -59,22 +58,22 @@ claim s small ws r ws' d = go (bands_of s) refl
             omega arith
 
 -- 34 exactly where more than 32 bands are listed
-pub payload_many : (s : List ℕ) → ((i : ℕ) → byte s i < 256) → (ws : List ℕ) (r : BandAnswer) (ws' : List ℕ)
+pub payload_many : (s : List ℕ) → ((i : ℕ) → byte s i < 256) → (ws : List ℕ) (r : Res ℕ) (ws' : List ℕ)
     → Stored s ws r ws'
-    → (r ≡ BandAnswer.Refused many_bands) ↔ TooMany s
+    → (r ≡ refuse many_bands) ↔ TooMany s
 payload_many s small ws r ws' d = (λ e. many r e (claim s small ws r ws' d), λ t. refused r (claim s small ws r ws' d) t)
   where
-    many : (a : BandAnswer) → a ≡ BandAnswer.Refused many_bands → Says s ws ws' a → TooMany s
-    many (BandAnswer.Words n) e c = let z : ◌≡◌ {A = ℕ} 0 1 = cc e in absurd (omega arith)
-    many (BandAnswer.Refused k) e c =
+    many : (a : Res ℕ) → a ≡ refuse many_bands → Says s ws ws' a → TooMany s
+    many (ok n) e c = let z : ◌≡◌ {A = ℕ} 0 1 = cc e in absurd (omega arith)
+    many (refuse k) e c =
         let z : k ≡ many_bands = cc e in
         ⊎_elim (λ h. let y = h.0 in absurd (omega arith)) (λ h. h.1) c.1
 
-    refused : (a : BandAnswer) → Says s ws ws' a → TooMany s → a ≡ BandAnswer.Refused many_bands
-    refused (BandAnswer.Words n) c t = absurd (c.5 t)
-    refused (BandAnswer.Refused k) c t = ⊎_elim (λ h. absurd (h.1 t.0 t.1)) (λ h. ap BandAnswer.Refused h.0) c.1
+    refused : (a : Res ℕ) → Says s ws ws' a → TooMany s → a ≡ refuse many_bands
+    refused (ok n) c t = absurd (c.5 t)
+    refused (refuse k) c t = ⊎_elim (λ h. absurd (h.1 t.0 t.1)) (λ h. ap refuse h.0) c.1
 
 -- the equation with the claim, as the contract has both
-pub claimed : {s : List ℕ} → ((i : ℕ) → byte s i < 256) → {ws : List ℕ} {r : BandAnswer} {ws' : List ℕ}
+pub claimed : {s : List ℕ} → ((i : ℕ) → byte s i < 256) → {ws : List ℕ} {r : Res ℕ} {ws' : List ℕ}
     → Stored s ws r ws' → Stored s ws r ws' × Says s ws ws' r
 claimed {s} small {ws} {r} {ws'} d = (d, claim s small ws r ws' d)

@@ -11,7 +11,7 @@ use Rattle.outcome.proofs.Laws.{le_or_lt}
 use Rattle.grammar.specs.Bands.{Entry, Band, entry_words, band_words, most_words, record_words}
 use Rattle.bands_model.specs.Answers.{padded}
 use Rattle.bands_model.specs.Count.{counting, bands_held}
-use Rattle.bands_model.specs.Look.{Counted}
+use Rattle.bands_model.specs.Look.{Counted, IsFront}
 use Rattle.bands_model.proofs.Look.{drop3}
 
 -- ---- A turn of the loop
@@ -61,6 +61,9 @@ count_more i n k ws h q =
 
 pub count_end : (i k : ℕ) (ws : List ℕ) → length ws - i < 3 → k ≡ k + counting 0 (drop i ws)
 count_end i k ws h = let z = counting-short 0 (drop i ws) (rw (length-drop i ws) h) in omega arith
+
+pub front-counted : {ws es rest : List ℕ} {a b n : ℕ} → IsFront ws a b n es rest → (k : ℕ) → k + 1 + counting 0 rest ≡ k + counting 0 ws
+front-counted {ws} {es} {rest} {a} {b} {n} f k = rw f.after (count_more 0 n k ws f.long f.count)
 
 -- ---- Words of listed bands
 

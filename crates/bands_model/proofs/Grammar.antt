@@ -10,17 +10,17 @@ use borrow.Author.Tests.{eq-eqb, ne_eqb, le-ltb, lt-ltb, le-leb, eqb-true, eqb-f
 use lib.Dec.{eqb, ltb, leb}
 use lib.ListN.{length, get_or, drop, take}
 use lib.Seq.{slice, length-slice, take_all, drop-drop, get_or-drop, get_or-take}
+use Rattle.std.specs.Prelude.{Option, Some as some, None as none}
 use Rattle.outcome.specs.Outcome.{Res, ok, refuse}
 use Rattle.outcome.proofs.Laws.{ok-not-refuse, ok-injective, le_or_lt}
 use Rattle.grammar.specs.Bytes.{word}
 use Rattle.grammar.specs.Bands.{Entry, Band, Entries, Bands, entry_words, band_words}
 use Rattle.bands_model.specs.Claim.{Listing}
 use Rattle.bands_model.specs.Answers.{rest_of}
-use Rattle.bands_model.specs.Bands.{word_of, push3, header, head_of, entry_of, on_head, on_entry, bands_of}
+use Rattle.bands_model.specs.Bands.{word_of, push3, header, head_of, entry_of, got, on_head, on_entry, bands_of}
 use Rattle.bands_model.specs.declared.Header.{Header}
 use Rattle.bands_model.specs.declared.Header.TheVariants as H
-use Rattle.bands_model.specs.declared.EntryRead.{EntryRead}
-use Rattle.bands_model.specs.declared.EntryRead.TheVariants as E
+use Rattle.bands_model.specs.declared.EntryWords.{EntryWords}
 use Rattle.bands_model.proofs.Loops.{bands-step, entries-step}
 
 -- ---- What two words say, and an entry's column
@@ -32,6 +32,11 @@ pub record IsHeader (a b f l n : ℕ) : Type 0 where
   pub first : f ≡ a
   pub last : l ≡ b % 4096
   pub count : n ≡ b / 4096
+
+-- a word of an entry that was read
+field : (EntryWords → ℕ) → Option EntryWords → ℕ
+field f none = 0
+field f (some x) = f x
 
 header-end : (a b : ℕ) → header a b ≡ H.End → a * 65536 + b ≡ 0x0FFFFFFF
 unfolding header
@@ -128,7 +133,7 @@ module _ (u : List ℕ) (e : ℕ) (k : e ≤ length u) where
           rw (ne_eqb (length (part p)) 0 a, lt-ltb (length (part p)) 4 c)
 
   -- an entry, both ways
-  entry-some : (p lo : ℕ) → p + 6 ≤ e → lo ≤ word u p → entry_of (part p) lo ≡ E.Got (word u p) (word u (p + 2)) (word u (p + 4))
+  entry-some : (p lo : ℕ) → p + 6 ≤ e → lo ≤ word u p → entry_of (part p) lo ≡ got (word u p) (word u (p + 2)) (word u (p + 4))
   unfolding entry_of
   entry-some p lo h b =
       let l : length (part p) ≡ e - p = length-slice p e u k in
@@ -137,16 +142,16 @@ module _ (u : List ℕ) (e : ℕ) (k : e ≤ length u) where
       let w : word_of (get_or (part p) 0 0) (get_or (part p) 1 0) ≡ word u p = part-word p 0 (omega arith) ∙ rw z in
       let d : lo ≤ word_of (get_or (part p) 0 0) (get_or (part p) 1 0) = rw w b in
       rw (le-ltb (length (part p)) 6 a, le-ltb (word_of (get_or (part p) 0 0) (get_or (part p) 1 0)) lo d)
-      (λ i. E.Got (w i) (part-word p 2 (omega arith) i) (part-word p 4 (omega arith) i))
+      (λ i. got (w i) (part-word p 2 (omega arith) i) (part-word p 4 (omega arith) i))
 
-  entry-short : (p lo : ℕ) → p ≤ e → e < p + 6 → entry_of (part p) lo ≡ E.Bad
+  entry-short : (p lo : ℕ) → p ≤ e → e < p + 6 → entry_of (part p) lo ≡ none
   unfolding entry_of
   entry-short p lo b h =
       let l : length (part p) ≡ e - p = length-slice p e u k in
       let a : length (part p) < 6 = omega arith in
       rw (lt-ltb (length (part p)) 6 a)
 
-  entry-low : (p lo : ℕ) → p + 6 ≤ e → word u p < lo → entry_of (part p) lo ≡ E.Bad
+  entry-low : (p lo : ℕ) → p + 6 ≤ e → word u p < lo → entry_of (part p) lo ≡ none
   unfolding entry_of
   entry-low p lo h b =
       let l : length (part p) ≡ e - p = length-slice p e u k in
@@ -163,13 +168,14 @@ module _ (u : List ℕ) (e : ℕ) (k : e ≤ length u) where
     selectors : s ≡ word u (p + 2)
     alphas : a ≡ word u (p + 4)
 
-  entry-got : (p lo c s a : ℕ) → p ≤ e → entry_of (part p) lo ≡ E.Got c s a → IsRead p lo c s a
+  entry-got : (p lo c s a : ℕ) → p ≤ e → entry_of (part p) lo ≡ got c s a → IsRead p lo c s a
+  unfolding field word
   entry-got p lo c s a b q =
       ⊎_elim
       (λ h.
       ⊎_elim
-      (λ g. let f : E.Got (word u p) (word u (p + 2)) (word u (p + 4)) ≡ E.Got c s a = sym (entry-some p lo h g) ∙ q in
-      record { within = h; rising = g; column = cc; selectors = cc; alphas = cc })
+      (λ g. let f : got (word u p) (word u (p + 2)) (word u (p + 4)) ≡ got c s a = sym (entry-some p lo h g) ∙ q in
+      record { within = h; rising = g; column = sym (ap (field (λ x. x.column)) f); selectors = sym (ap (field (λ x. x.selectors)) f); alphas = sym (ap (field (λ x. x.alphas)) f) })
       (λ g. absurd (let z = sym (entry-low p lo h g) ∙ q in let y : ◌≡◌ {A = ℕ} 0 1 = cc in omega arith))
       (le_or_lt lo (word u p)))
       (λ h. absurd (let z = sym (entry-short p lo b h) ∙ q in let y : ◌≡◌ {A = ℕ} 0 1 = cc in omega arith))
@@ -233,24 +239,24 @@ module _ (u : List ℕ) (e : ℕ) (k : e ≤ length u) where
       go (λ c vs w g. enter n (p + 6) (c + 1) vs w (λ x ys l. rec x ys (omega arith)) g) (entry_of (part p) lo) refl (sym (entries-turn (part p) n lo) ∙ q)
     where
       go : ((c : ℕ) (vs : List ℕ) → p + 6 ≤ e → rest_of (part (p + 6)) n (c + 1) ≡ ok vs → Entered (p + 6) n (c + 1) vs)
-          → (r : EntryRead) → entry_of (part p) lo ≡ r → on_entry r (λ col. rest_of (drop 6 (part p)) n (col + 1)) ≡ ok ws → Entered p (suc n) lo ws
-      go ih E.Bad f g = ok-not-refuse g
-      go ih (E.Got c s a) f g =
-          let i = entry-got p lo c s a b f in
-          let v = push_ok c s a (rest_of (drop 6 (part p)) n (c + 1)) ws g in
-          let w : rest_of (part (p + 6)) n (c + 1) ≡ ok v.0 = sym (ap (λ (l : List ℕ). rest_of l n (c + 1)) (part-drop p 6)) ∙ v.1 in
-          let t = ih c v.0 i.within w in
+          → (r : Option EntryWords) → entry_of (part p) lo ≡ r → on_entry r (λ col. rest_of (drop 6 (part p)) n (col + 1)) ≡ ok ws → Entered p (suc n) lo ws
+      go ih none f g = ok-not-refuse g
+      go ih (some r) f g =
+          let i = entry-got p lo r.column r.selectors r.alphas b f in
+          let v = push_ok r.column r.selectors r.alphas (rest_of (drop 6 (part p)) n (r.column + 1)) ws g in
+          let w : rest_of (part (p + 6)) n (r.column + 1) ≡ ok v.0 = sym (ap (λ (l : List ℕ). rest_of l n (r.column + 1)) (part-drop p 6)) ∙ v.1 in
+          let t = ih r.column v.0 i.within w in
           let z : p + 6 + 6 * n ≡ p + 6 * suc n = omega arith in
           record {
-            xs = record { place = p; column = c; selectors = s; alphas = a } ∷ t.xs;
+            xs = record { place = p; column = r.column; selectors = r.selectors; alphas = r.alphas } ∷ t.xs;
             rest = t.rest;
             all = ap suc t.all;
             list = (
               refl,
               record { within = i.within; column_is = i.column; selectors_are = i.selectors; alphas_are = i.alphas; rising = rw i.column i.rising },
-              subst (λ (x : ℕ). Entries u e (p + 6) x t.xs) (add-one c) t.list,
+              subst (λ (x : ℕ). Entries u e (p + 6) x t.xs) (add-one r.column) t.list,
             );
-            words = v.2 ∙ ap (λ (l : List ℕ). c ∷ s ∷ a ∷ l) t.words;
+            words = v.2 ∙ ap (λ (l : List ℕ). r.column ∷ r.selectors ∷ r.alphas ∷ l) t.words;
             found = subst (λ (x : ℕ). Listing u e x t.rest) z t.found;
           }
 

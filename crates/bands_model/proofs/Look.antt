@@ -5,15 +5,15 @@ use native.Mathlib.Omega.{arith}
 use mathlib.Core.Path.{◌≡◌, refl, ap, sym, ◌∙◌}
 use mathlib.Core.Bool.{Bool, true, false, cond, ◌&&◌, ◌||◌}
 use mathlib.Core.Logic.{⊎_elim}
-use mathlib.Core.Option.{Option, none}
+use Rattle.std.specs.Prelude.{Option, None as none}
 use mathlib.Core.List.{List, [], ◌∷◌, ◌++◌}
 use lib.Dec.{leb}
-use lib.ListN.{length, get_or, drop, length-drop}
-use lib.Seq.{drop-cons, drop-drop}
+use lib.ListN.{length, get_or, take, drop, length-drop}
+use lib.Seq.{drop-cons, drop-drop, take_all}
 use Rattle.outcome.proofs.Laws.{clash, le_or_lt}
 use Rattle.grammar.specs.Bands.{Entry, Band, Bands, entry_words, band_words, band_end}
 use Rattle.grammar.specs.Look.{Look, rightmost, last_look, look_at}
-use Rattle.bands_model.specs.Look.{Counted, pick_entry, looking, look_words, spanning, spans_line, entries_look, band_look}
+use Rattle.bands_model.specs.Look.{Counted, pick_entry, looking, look_words, spanning, spans_line, entries_look, band_look, IsFront}
 
 or-false : (a b : Bool) → (a || b) ≡ false → (a ≡ false) × (b ≡ false)
 or-false true b h = absurd (clash true refl h)
@@ -192,3 +192,39 @@ pub bands-counted : (u : List ℕ) (e p : ℕ) (bs : List Band) → Bands u e p 
 unfolding Bands Counted
 bands-counted u e p [] h = tt
 bands-counted u e p (b ∷ bs) h = (h.1.all, bands-counted u e (band_end b) bs h.2)
+
+-- ---- The band in front
+
+module _ {ws es rest : List ℕ} {a b n : ℕ} (f : IsFront ws a b n es rest) where
+  pub front_room : 3 * n ≤ length es
+  front_room = let l = ap length f.entries ∙ length-drop 3 ws in let c = f.count in omega arith
+
+  pub front_less : length rest + 3 * n + 3 ≡ length ws
+  front_less = let l = ap length f.after ∙ length-drop (3 + 3 * n) ws in let c = f.count in let k = f.long in omega arith
+
+  pub front-look : (x y : ℕ) (o r : Option Look) → r ≡ band_look x y a b n o es → looking x y 0 false r rest ≡ looking x y 0 false o ws
+  front-look x y o r e = rw f.after (bands-more x y 0 n o r ws f.long f.count (e ∙ rw (f.first, f.last, f.entries)))
+
+  pub front-spans : (y : ℕ) → (leb a y && leb y b) ≡ true → true ≡ spanning y 0 ws
+  front-spans y t = line-found y 0 ws f.long (rw (f.first, f.last) at t)
+
+  pub front-other : (y : ℕ) → (leb a y && leb y b) ≡ false → spanning y 0 rest ≡ spanning y 0 ws
+  front-other y t = rw f.after (line-more y 0 n ws f.long f.count (rw (f.first, f.last) at t))
+
+-- as the code takes it apart
+all_left : (k : ℕ) (ws : List ℕ) → take (length ws - k) (drop k ws) ≡ drop k ws
+all_left k ws = take_all (length ws - k) (drop k ws) (rw (length-drop k ws) (omega arith))
+
+pub front_is : (ws : List ℕ) (n : ℕ) (es rest : List ℕ) → 3 ≤ length ws → es ≡ take (length ws - 3) (drop 3 ws) → n ≡ min (get_or ws 2 0) (length es / 3)
+    → rest ≡ take (length es - 3 * n) (drop (3 * n) es) → IsFront ws (get_or ws 0 0) (get_or ws 1 0) n es rest
+front_is ws n es rest h e q r =
+    let d : es ≡ drop 3 ws = e ∙ all_left 3 ws in
+    let l = ap length d ∙ length-drop 3 ws in
+    record {
+      long = h;
+      first = refl;
+      last = refl;
+      count = q ∙ ap (λ (k : ℕ). min (get_or ws 2 0) (k / 3)) l;
+      entries = d;
+      after = r ∙ all_left (3 * n) es ∙ ap (drop (3 * n)) d ∙ drop-drop (3 * n) 3 ws;
+    }

@@ -2,6 +2,7 @@
 use mathlib.Core.Path.{◌≡◌, refl, ap, sym, subst, ◌∙◌}
 use mathlib.Core.List.{List, [], ◌∷◌, ◌++◌, append_assoc}
 use mathlib.Core.Bool.{Bool, true, false, cond}
+use Rattle.std.specs.Prelude.{Option, None as none}
 use Rattle.outcome.specs.Outcome.{Res, ok, refuse, IsOk, no_band_list}
 use Prim.Native.Nat.{ℕ, ◌+◌, ◌-◌, ◌<◌, ◌≤◌}
 use native.Mathlib.Numerals.{add-one, add-two, add-three}
@@ -12,15 +13,13 @@ use lib.ListN.{length, get_or, drop, take, set, length-drop, length-append}
 use Rattle.outcome.proofs.Laws.{sets-append}
 use lib.Seq.{sets, take_all, drop-drop, length-sets}
 use Rattle.grammar.specs.Bands.{Band, entry_words, band_words}
-use Rattle.bands_model.specs.Bands.{word_of, push3, header, head_of, entry_of, on_head, on_entry, bands_of, entries_of}
+use Rattle.bands_model.specs.Bands.{word_of, push3, header, head_of, entry_of, got, on_head, on_entry, bands_of, entries_of}
 use Rattle.bands_model.specs.Answers.{pushes, rest_of, last_of, Part, Goes, Ahead, ListRead}
 use Rattle.bands_model.specs.declared.Stop.{Stop}
 use Rattle.bands_model.specs.declared.Stop.TheVariants as stop
-use Rattle.bands_model.specs.declared.BandAnswer.TheVariants as BandAnswer
 use Rattle.bands_model.specs.declared.Header.{Header}
 use Rattle.bands_model.specs.declared.Header.TheVariants as H
-use Rattle.bands_model.specs.declared.EntryRead.{EntryRead}
-use Rattle.bands_model.specs.declared.EntryRead.TheVariants as E
+use Rattle.bands_model.specs.declared.EntryWords.{EntryWords}
 
 -- the rest after k bytes, as a part of a slice has it
 pub take_rest : (k : ℕ) (s : List ℕ) → take (length s - k) (drop k s) ≡ drop k s
@@ -69,11 +68,11 @@ head-room s f l n e = go (eqb (length s) 0) (ltb (length s) 4) refl _ e
     go false true q h e = let z : ◌≡◌ {A = ℕ} 0 1 = cc in omega arith
     go false false q h e = ltb-false (length s) 4 q
 
-pub entry-room : (s : List ℕ) (lo c x a : ℕ) → entry_of s lo ≡ E.Got c x a → 6 ≤ length s
+pub entry-room : (s : List ℕ) (lo c x a : ℕ) → entry_of s lo ≡ got c x a → 6 ≤ length s
 unfolding entry_of
 entry-room s lo c x a e = go (ltb (length s) 6) refl _ e
   where
-    go : (u : Bool) → ltb (length s) 6 ≡ u → (r : EntryRead) → cond u E.Bad r ≡ E.Got c x a → 6 ≤ length s
+    go : (u : Bool) → ltb (length s) 6 ≡ u → (r : Option EntryWords) → cond u none r ≡ got c x a → 6 ≤ length s
     go true q r e = let z : ◌≡◌ {A = ℕ} 0 1 = cc in omega arith
     go false q r e = ltb-false (length s) 6 q
 
@@ -95,13 +94,13 @@ module _ (s : List ℕ) where
   pub band-some : (f l k : ℕ) → head_of s ≡ H.Band f l k → (k ≡ 0 → ⊥) → bands_of s ≡ push3 f l k (entries_of (take (length s - 4) (drop 4 s)) k 0)
   band-some f l k e z = rw (take_rest 4 s, bands-step s, e, ne_eqb k 0 z)
 
-  pub entry-bad : (n lo : ℕ) → entry_of s lo ≡ E.Bad → entries_of s n lo ≡ refuse no_band_list
+  pub entry-bad : (n lo : ℕ) → entry_of s lo ≡ none → entries_of s n lo ≡ refuse no_band_list
   entry-bad n lo e = rw (entries-step s n lo, e)
 
-  pub entry-last : (n lo c x a : ℕ) → entry_of s lo ≡ E.Got c x a → n ≡ 1 → entries_of s n lo ≡ push3 c x a (bands_of (take (length s - 6) (drop 6 s)))
+  pub entry-last : (n lo c x a : ℕ) → entry_of s lo ≡ got c x a → n ≡ 1 → entries_of s n lo ≡ push3 c x a (bands_of (take (length s - 6) (drop 6 s)))
   entry-last n lo c x a e z = rw (take_rest 6 s, entries-step s n lo, e, eq-eqb n 1 z)
 
-  pub entry_more : (n lo c x a : ℕ) → entry_of s lo ≡ E.Got c x a → (n ≡ 1 → ⊥) → entries_of s n lo ≡ push3 c x a (entries_of (take (length s - 6) (drop 6 s)) (n - 1) (c + 1))
+  pub entry_more : (n lo c x a : ℕ) → entry_of s lo ≡ got c x a → (n ≡ 1 → ⊥) → entries_of s n lo ≡ push3 c x a (entries_of (take (length s - 6) (drop 6 s)) (n - 1) (c + 1))
   entry_more n lo c x a e z = rw (take_rest 6 s, entries-step s n lo, e, ne_eqb n 1 z)
 
 -- ---- Where the readers stop
@@ -231,10 +230,10 @@ module _ (s : List ℕ) (from : ℕ) (v : List ℕ) where
   pub inner-starts : (n lo : ℕ) → Ahead s (entries_of s n lo) (entries_of (drop 0 s) n lo) from v 0 from v
   inner-starts n lo = ahead-starts s (entries_of s n lo) (entries_of s n lo) from v refl
 
-  pub inner_room : (i lo c x a : ℕ) → entry_of (take (length s - i) (drop i s)) lo ≡ E.Got c x a → i ≤ length s → i + 6 ≤ length s
+  pub inner_room : (i lo c x a : ℕ) → entry_of (take (length s - i) (drop i s)) lo ≡ got c x a → i ≤ length s → i + 6 ≤ length s
   inner_room i lo c x a e h = omega (arith, entry-room (take (length s - i) (drop i s)) lo c x a e, after-length s i)
 
-  pub inner_step : (m k : ℕ) (i at n lo : ℕ) (w w' : List ℕ) (c x a : ℕ) → entry_of (take (length s - i) (drop i s)) lo ≡ E.Got c x a → 1 < n
+  pub inner_step : (m k : ℕ) (i at n lo : ℕ) (w w' : List ℕ) (c x a : ℕ) → entry_of (take (length s - i) (drop i s)) lo ≡ got c x a → 1 < n
       → w' ≡ set (set (set w at c) (at + 1) x) (at + 2) a → Ahead s (entries_of s m k) (entries_of (drop i s) n lo) from v i at w
       → Ahead s (entries_of s m k) (entries_of (drop (i + 6) s) (n - 1) (c + 1)) from v (i + 6) (at + 3) w'
   inner_step m k i at n lo w w' c x a e z q h =
@@ -317,8 +316,8 @@ module _ (s : List ℕ) (from : ℕ) (v : List ℕ) where
             let g = subst (λ (t : List ℕ). Part (rest_of (last_of n s) left lo) (rest_of t left' lo') at to w v') f h in
             record { there = omega arith; room = omega arith; part = part_join (bands_of s) (rest_of (last_of n s) left lo) (rest_of (last_of n' s) left' lo') from at to v w v' i.part g }
 
-pub list_ends : (s : List ℕ) (from to : ℕ) (v v' : List ℕ) → Part (bands_of s) (ok []) from to v v' → ListRead s from v (BandAnswer.Words (to - from)) v'
-list_ends s from to v v' p = record { answer = rw (e, l) (ap BandAnswer.Words (omega arith)); words = λ o. rw e p.words }
+pub list_ends : (s : List ℕ) (from to : ℕ) (v v' : List ℕ) → Part (bands_of s) (ok []) from to v v' → ListRead s from v (ok (to - from)) v'
+list_ends s from to v v' p = record { answer = rw (e, l) (ap ok (omega arith)); words = λ o. rw e p.words }
   where
     none : (ws : List ℕ) → ws ++ [] ≡ ws
     none [] = refl
@@ -330,7 +329,7 @@ list_ends s from to v v' p = record { answer = rw (e, l) (ap BandAnswer.Words (o
     l : to ≡ from + length p.ws
     l = p.place
 
-pub list_fails : (s : List ℕ) (from : ℕ) (v v' : List ℕ) → bands_of s ≡ refuse no_band_list → ListRead s from v (BandAnswer.Refused no_band_list) v'
+pub list_fails : (s : List ℕ) (from : ℕ) (v v' : List ℕ) → bands_of s ≡ refuse no_band_list → ListRead s from v (refuse no_band_list) v'
 list_fails s from v v' e = record { answer = rw e; words = λ o. absurd (subst IsOk e o) }
 
 -- joined bands are stored one payload after the other

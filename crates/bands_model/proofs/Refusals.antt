@@ -6,6 +6,7 @@ use mathlib.Core.List.{List, [], ◌∷◌}
 use lib.Dec.{leb, eqb}
 use lib.ListN.{replicate}
 use Rattle.outcome.proofs.Numbers.{in_table, check-numbered, and_then-numbered, only-numbered}
+use Rattle.std.specs.Prelude.{Option, Some as some, None as none}
 use Rattle.outcome.specs.Outcome.{InTable, Res, ok, refuse, no_band_list, many_bands, Numbered}
 use Rattle.outcome.proofs.Laws.{ok-not-refuse, refuse-injective}
 use Rattle.bands_model.specs.Bands.{push3, word_of, header, entry_of, on_head, on_entry, bands_of, entries_of}
@@ -14,8 +15,7 @@ use Rattle.bands_model.specs.Count.{bands_held}
 use Rattle.bands_model.specs.Answers.{stored}
 use Rattle.bands_model.specs.declared.Header.{Header}
 use Rattle.bands_model.specs.declared.Header.TheVariants as H
-use Rattle.bands_model.specs.declared.EntryRead.{EntryRead}
-use Rattle.bands_model.specs.declared.EntryRead.TheVariants as E
+use Rattle.bands_model.specs.declared.EntryWords.{EntryWords}
 
 push-refuses : (x y z k : ℕ) (r : Res (List ℕ)) → push3 x y z r ≡ refuse k → r ≡ refuse k
 push-refuses x y z k (ok v) q = ok-not-refuse (sym q)
@@ -52,9 +52,9 @@ mutual
       go (λ i. bands-refuses s k i) (λ c i. entries-refuses s (n - 1) (c + 1) k i) (entry_of (a ∷ b ∷ c ∷ d ∷ e ∷ f ∷ s) lo) q
     where
       go : (bands_of s ≡ refuse k → k ≡ no_band_list) → ((c : ℕ) → entries_of s (n - 1) (c + 1) ≡ refuse k → k ≡ no_band_list)
-          → (r : EntryRead) → on_entry r (λ col. cond (eqb n 1) (bands_of s) (entries_of s (n - 1) (col + 1))) ≡ refuse k → k ≡ no_band_list
-      go f g E.Bad q = sym (refuse-injective q)
-      go f g (E.Got c x y) q = either (eqb n 1) k (bands_of s) (entries_of s (n - 1) (c + 1)) f (g c) (push-refuses c x y k (cond (eqb n 1) (bands_of s) (entries_of s (n - 1) (c + 1))) q)
+          → (r : Option EntryWords) → on_entry r (λ col. cond (eqb n 1) (bands_of s) (entries_of s (n - 1) (col + 1))) ≡ refuse k → k ≡ no_band_list
+      go f g none q = sym (refuse-injective q)
+      go f g (some e) q = either (eqb n 1) k (bands_of s) (entries_of s (n - 1) (e.column + 1)) f (g e.column) (push-refuses e.column e.selectors e.alphas k (cond (eqb n 1) (bands_of s) (entries_of s (n - 1) (e.column + 1))) q)
 
 pub stored-numbered : (s : List ℕ) → Numbered (stored s)
 unfolding stored

@@ -12,21 +12,20 @@ use Rattle.grammar.proofs.Limit.{payload_words}
 use Rattle.bands_model.specs.Bands.{bands_of}
 use Rattle.bands_model.specs.Count.{bands_held}
 use Rattle.bands_model.specs.Answers.{count_of, padded, stored, Stored}
-use Rattle.bands_model.specs.declared.BandAnswer.TheVariants as BandAnswer
 use Rattle.bands_model.proofs.Grammar.{listed-words}
 use Rattle.bands_model.proofs.Look.{bands-counted}
 use Rattle.bands_model.proofs.Count.{bands_held_lem, padded-front}
 
-pub counted : (g : Res (List ℕ)) (n : ℕ) → count_of 0 g ≡ BandAnswer.Words n → IsOk g × (length (listed g) ≡ n)
+pub counted : (g : Res (List ℕ)) (n : ℕ) → count_of 0 g ≡ ok n → IsOk g × (length (listed g) ≡ n)
 counted (refuse k) n e = let z : ◌≡◌ {A = ℕ} 0 1 = cc in absurd (omega arith)
 counted (ok ws) n e =
     let q : 0 + length ws ≡ n = cc in
     (tt, omega arith)
 
 -- bands that were counted before are read
-pub read_known : (g : Res (List ℕ)) → IsOk g → count_of 0 g ≡ BandAnswer.Words (length (listed g))
+pub read_known : (g : Res (List ℕ)) → IsOk g → count_of 0 g ≡ ok (length (listed g))
 read_known (refuse k) o = absurd o
-read_known (ok v) o = ap BandAnswer.Words (omega arith)
+read_known (ok v) o = ap ok (omega arith)
 
 module _ (s ws : List ℕ) where
   -- what is listed of a payload, from the number of its words
@@ -35,29 +34,29 @@ module _ (s ws : List ℕ) where
     is : bands_of s ≡ ok v
     long : length v ≡ n
 
-  found : (n : ℕ) → count_of 0 (bands_of s) ≡ BandAnswer.Words n → Found n
+  found : (n : ℕ) → count_of 0 (bands_of s) ≡ ok n → Found n
   found n e = go (bands_of s) refl e
     where
-      go : (g : Res (List ℕ)) → bands_of s ≡ g → count_of 0 g ≡ BandAnswer.Words n → Found n
+      go : (g : Res (List ℕ)) → bands_of s ≡ g → count_of 0 g ≡ ok n → Found n
       go (refuse k) q f = let z : ◌≡◌ {A = ℕ} 0 1 = cc in absurd (omega arith)
       go (ok v) q f = record { v = v; is = q; long = (counted (ok v) n f).1 }
 
-  pub stored-none : (k : ℕ) → count_of 0 (bands_of s) ≡ BandAnswer.Refused k → Stored s ws (BandAnswer.Refused k) ws
+  pub stored-none : (k : ℕ) → count_of 0 (bands_of s) ≡ refuse k → Stored s ws (refuse k) ws
   unfolding stored
   stored-none k e = go (bands_of s) refl e
     where
-      go : (g : Res (List ℕ)) → bands_of s ≡ g → count_of 0 g ≡ BandAnswer.Refused k
-          → Stored s ws (BandAnswer.Refused k) ws
+      go : (g : Res (List ℕ)) → bands_of s ≡ g → count_of 0 g ≡ refuse k
+          → Stored s ws (refuse k) ws
       go (ok v) q e = let z : ◌≡◌ {A = ℕ} 0 1 = cc in absurd (omega arith)
       go (refuse m) q e = record { answer = rw q (sym e); words = rw q }
 
-  many : (v : List ℕ) → bands_of s ≡ ok v → most_bands < bands_held v → Stored s ws (BandAnswer.Refused many_bands) ws
+  many : (v : List ℕ) → bands_of s ≡ ok v → most_bands < bands_held v → Stored s ws (refuse many_bands) ws
   unfolding stored
   many v q h = let z = lt-leb (bands_held v) most_bands h in record { answer = rw (q, z); words = rw (q, z) }
 
   -- more words than 32 bands can take
-  pub stored-over : ((i : ℕ) → byte s i < 256) → (n : ℕ) → count_of 0 (bands_of s) ≡ BandAnswer.Words n
-      → most_words < n → Stored s ws (BandAnswer.Refused many_bands) ws
+  pub stored-over : ((i : ℕ) → byte s i < 256) → (n : ℕ) → count_of 0 (bands_of s) ≡ ok n
+      → most_words < n → Stored s ws (refuse many_bands) ws
   stored-over small n e h =
       let f = found n e in
       let l = listed-words s f.v f.is in
@@ -73,20 +72,20 @@ module _ (s ws : List ℕ) where
     held : k ≡ bands_held (listed (bands_of s))
     held = count ∙ ap (λ (x : List ℕ). bands_held (take n x)) filled ∙ ap bands_held (padded-front (listed (bands_of s)) n long few)
 
-    pub stored-many : most_bands < k → Stored s ws (BandAnswer.Refused many_bands) ws
+    pub stored-many : most_bands < k → Stored s ws (refuse many_bands) ws
     stored-many h = let e = held in many (listed (bands_of s)) (known (bands_of s) o) (omega arith)
       where
         known : (g : Res (List ℕ)) → IsOk g → g ≡ ok (listed g)
         known (refuse j) o = absurd o
         known (ok v) o = refl
 
-    pub stored-kept : k ≤ most_bands → Stored s ws (BandAnswer.Words n) us
+    pub stored-kept : k ≤ most_bands → Stored s ws (ok n) us
     unfolding stored
     stored-kept h = go (bands_of s) refl o long filled held
       where
         go : (g : Res (List ℕ)) → bands_of s ≡ g → IsOk g → n ≡ length (listed g) → us ≡ padded (listed g)
-            → k ≡ bands_held (listed g) → Stored s ws (BandAnswer.Words n) us
+            → k ≡ bands_held (listed g) → Stored s ws (ok n) us
         go (refuse j) q o l f e = absurd o
         go (ok v) q o l f e =
             let z = le-leb (bands_held v) most_bands (omega arith) in
-            record { answer = rw (q, z) (ap BandAnswer.Words (omega arith)); words = rw (q, z) f }
+            record { answer = rw (q, z) (ap ok (omega arith)); words = rw (q, z) f }

@@ -5,14 +5,13 @@ use Rattle.outcome.specs.Outcome.{Res, ok, refuse, check, and_then, listed, IsOk
 use Rattle.grammar.specs.Bands.{most_bands, most_words}
 use Rattle.bands_model.specs.Bands.{bands_of, entries_of}
 use Rattle.bands_model.specs.Count.{bands_held}
-use Rattle.bands_model.specs.declared.BandAnswer.{BandAnswer}
 use Rattle.bands_model.specs.declared.Stop.{Stop}
 use Rattle.bands_model.specs.declared.Stop.TheVariants as stop
 
 -- the number of words, and n more
-abbrev pub count_of : ℕ → Res (List ℕ) → BandAnswer
-count_of n (refuse k) = BandAnswer.Refused k
-count_of n (ok ws) = BandAnswer.Words (n + length ws)
+abbrev pub count_of : ℕ → Res (List ℕ) → Res ℕ
+count_of n (refuse k) = refuse k
+count_of n (ok ws) = ok (n + length ws)
 
 -- words, and 0 after them
 abbrev pub padded : List ℕ → List ℕ
@@ -28,7 +27,7 @@ array_after ws (ok v) = padded v
 array_after ws (refuse k) = ws
 
 -- what reading a payload into an array leaves
-pub record Stored (s ws : List ℕ) (r : BandAnswer) (ws' : List ℕ) : Type 0 where
+pub record Stored (s ws : List ℕ) (r : Res ℕ) (ws' : List ℕ) : Type 0 where
   pub answer : r ≡ count_of 0 (stored s)
   pub words : ws' ≡ array_after ws (stored s)
 
@@ -67,6 +66,6 @@ Goes s d g at v (stop.More rest left lo to) v' =
     Part g (rest_of (last_of rest s) left lo) at to v v' × (rest + d ≤ length s) × (to + rest ≤ at + length s)
 
 -- what reading a whole list leaves: its words are stored where it is one
-pub record ListRead (s : List ℕ) (at : ℕ) (ws : List ℕ) (r : BandAnswer) (ws' : List ℕ) : Type 0 where
+pub record ListRead (s : List ℕ) (at : ℕ) (ws : List ℕ) (r : Res ℕ) (ws' : List ℕ) : Type 0 where
   pub answer : r ≡ count_of 0 (bands_of s)
   pub words : IsOk (bands_of s) → ws' ≡ sets ws at (listed (bands_of s))

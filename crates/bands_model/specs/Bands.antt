@@ -1,11 +1,11 @@
 -- The words of a list of bands, from the bytes after a colour change's size word; or refusal 19 where they are no such list.
 -- Header and entries are defined by each other, as they follow each other. Assumes nothing: these are definitions.
 use Rattle.std.specs.Prelude.{ℕ, ◌+◌, ◌-◌, ◌*◌, ◌/◌, ◌%◌, cond, List, [], ◌∷◌, eqb, leb, ltb, length, get_or}
+use Rattle.std.specs.Prelude.{Option, Some as some, None as none}
 use Rattle.outcome.specs.Outcome.{Res, ok, refuse, no_band_list}
 use Rattle.bands_model.specs.declared.Header.{Header}
 use Rattle.bands_model.specs.declared.Header.TheVariants as H
-use Rattle.bands_model.specs.declared.EntryRead.{EntryRead}
-use Rattle.bands_model.specs.declared.EntryRead.TheVariants as E
+use Rattle.bands_model.specs.declared.EntryWords.{EntryWords}
 
 -- three words in front of what follows
 abbrev pub push3 : ℕ → ℕ → ℕ → Res (List ℕ) → Res (List ℕ)
@@ -27,21 +27,24 @@ head_of s =
     cond (eqb (length s) 0) H.End
     (cond (ltb (length s) 4) H.Bad (header (word_of (get_or s 0 0) (get_or s 1 0)) (word_of (get_or s 2 0) (get_or s 3 0))))
 
+abbrev pub got : ℕ → ℕ → ℕ → Option EntryWords
+got c s a = some (record { column = c; selectors = s; alphas = a })
+
 -- an entry that starts at column lo or right of it (FORMAT 4.4)
-unfoldable pub entry_of : List ℕ → ℕ → EntryRead
+unfoldable pub entry_of : List ℕ → ℕ → Option EntryWords
 entry_of s lo =
-    cond (ltb (length s) 6) E.Bad
-    (cond (ltb (word_of (get_or s 0 0) (get_or s 1 0)) lo) E.Bad
-    (E.Got (word_of (get_or s 0 0) (get_or s 1 0)) (word_of (get_or s 2 0) (get_or s 3 0)) (word_of (get_or s 4 0) (get_or s 5 0))))
+    cond (ltb (length s) 6) none
+    (cond (ltb (word_of (get_or s 0 0) (get_or s 1 0)) lo) none
+    (got (word_of (get_or s 0 0) (get_or s 1 0)) (word_of (get_or s 2 0) (get_or s 3 0)) (word_of (get_or s 4 0) (get_or s 5 0))))
 
 abbrev pub on_head : Header → (ℕ → Res (List ℕ)) → Res (List ℕ)
 on_head H.End k = ok []
 on_head H.Bad k = refuse no_band_list
 on_head (H.Band f l n) k = push3 f l n (k n)
 
-abbrev pub on_entry : EntryRead → (ℕ → Res (List ℕ)) → Res (List ℕ)
-on_entry E.Bad k = refuse no_band_list
-on_entry (E.Got c s a) k = push3 c s a (k c)
+abbrev pub on_entry : Option EntryWords → (ℕ → Res (List ℕ)) → Res (List ℕ)
+on_entry none k = refuse no_band_list
+on_entry (some e) k = push3 e.column e.selectors e.alphas (k e.column)
 
 unfoldable mutual
   -- bands from a header on (FORMAT 4.2, 4.5)

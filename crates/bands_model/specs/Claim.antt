@@ -1,8 +1,7 @@
 -- What the layer claims, in the grammar's words; `proofs/Claim.antt` has it kept. Assumes nothing: these are definitions.
 use Rattle.std.specs.Prelude.{ℕ, ◌≤◌, ◌<◌, ◌≡◌, ◌⊎◌, List, length}
-use Rattle.outcome.specs.Outcome.{no_band_list, many_bands}
+use Rattle.outcome.specs.Outcome.{Res, ok, refuse, no_band_list, many_bands}
 use Rattle.grammar.specs.Bands.{Band, Bands, band_words, most_bands, record_words}
-use Rattle.bands_model.specs.declared.BandAnswer.{BandAnswer}
 
 -- the grammar lists bands in u from p on, before byte e, and ws are their words
 pub record Listing (u : List ℕ) (e p : ℕ) (ws : List ℕ) : Type 0 where
@@ -21,9 +20,9 @@ TooMany s = (bs : List Band) × PayloadBands s bs × (most_bands < length bs)
 -- what an answer for the payload s, and the array after it, say: where words are answered, bands are listed, at most
 -- 32, and the array holds their words and then 0; a refusal leaves the array as found, and says that nothing is listed,
 -- or, where it is 34, that too many are
-abbrev pub Says : List ℕ → List ℕ → List ℕ → BandAnswer → Type 0
-Says s ws ws' (BandAnswer.Words n) =
+abbrev pub Says : List ℕ → List ℕ → List ℕ → Res ℕ → Type 0
+Says s ws ws' (ok n) =
     (bs : List Band) × PayloadBands s bs × (length bs ≤ most_bands) × (n ≡ length (band_words bs))
     × (ws' ≡ record_words bs) × (TooMany s → ⊥)
-Says s ws ws' (BandAnswer.Refused k) =
+Says s ws ws' (refuse k) =
     (ws' ≡ ws) × (((k ≡ no_band_list) × ((bs : List Band) → PayloadBands s bs → ⊥)) ⊎ ((k ≡ many_bands) × TooMany s))

@@ -1,18 +1,18 @@
 -- What stored words give at a place of the display (FORMAT 4.6), for any words: they are taken three at a time, and one or two at the end say nothing.
 -- Assumes nothing: these are definitions.
-use Rattle.std.specs.Prelude.{ℕ, zero, suc, ◌≡◌, Bool, false, cond, ◌&&◌, ◌||◌, List, [], ◌∷◌, leb, length}
-use Rattle.std.proofs.Math.Option.{Option, some, none}
+use Rattle.std.specs.Prelude.{ℕ, zero, suc, ◌+◌, ◌-◌, ◌*◌, ◌/◌, ◌≤◌, ◌≡◌, min, get_or, drop, Bool, false, cond, ◌&&◌, ◌||◌, List, [], ◌∷◌, leb, length}
+use Rattle.std.specs.Prelude.{Option, Some as some, None as none}
 use Rattle.grammar.specs.Bands.{Band}
 use Rattle.grammar.specs.Look.{Look}
-use Rattle.bands_model.specs.declared.LookAnswer.{LookAnswer}
+use Rattle.bands_model.specs.declared.Four.{Four}
 
 abbrev pub look : ℕ → ℕ → Look
 look s a = record { selectors = s; alphas = a }
 
 -- what an answer means
-abbrev pub told : LookAnswer → Option Look
-told LookAnswer.Nothing = none
-told (LookAnswer.Found s a) = some (look s a)
+abbrev pub told : Option Four → Option Look
+told none = none
+told (some f) = some (look f.selectors f.alphas)
 
 -- an entry of column c, or what was found before it
 abbrev pub pick_entry : ℕ → ℕ → ℕ → ℕ → Option Look → Option Look
@@ -56,3 +56,12 @@ band_look x y a b n o ws = cond (leb a y && leb y b) (entries_look x o n ws) o
 unfoldable pub Counted : List Band → Type 0
 Counted [] = Unit {0}
 Counted (b ∷ bs) = (length b.entries ≡ b.count) × Counted bs
+
+-- the band in front of words: its first and last line, how many entries there are, the words from these on, and those after them
+pub record IsFront (ws : List ℕ) (a b n : ℕ) (es rest : List ℕ) : Type 0 where
+  pub long : 3 ≤ length ws
+  pub first : a ≡ get_or ws 0 0
+  pub last : b ≡ get_or ws 1 0
+  pub count : n ≡ min (get_or ws 2 0) ((length ws - 3) / 3)
+  pub entries : es ≡ drop 3 ws
+  pub after : rest ≡ drop (3 + 3 * n) ws

@@ -1,17 +1,8 @@
 // Colour bands without their functions: the words of a payload, what stored words give at a place, the answers, laws and claim.
 #![tactic(auto)]
 
-// What a list of bands gives.
-#[derive(Clone, Copy)]
-pub enum BandAnswer {
-    // How many words its bands take.
-    Words(usize),
-    // The number of the refusal.
-    Refused(u8),
-}
-
-// What stands where a band's header may stand.
-#[derive(Clone, Copy)]
+// What stands where a band's header may stand. An Option in a Result would say the three cases in two places.
+#[derive(Clone, Copy, Debug, PartialEq, Eq)]
 pub enum Header {
     // The end of the list.
     End,
@@ -21,17 +12,16 @@ pub enum Header {
     Band(u16, u16, u16),
 }
 
-// What stands where an entry must stand.
-#[derive(Clone, Copy)]
-pub enum EntryRead {
-    // No entry, or one that starts too far left.
-    Bad,
-    // Column, selectors, alphas.
-    Got(u16, u16, u16),
+// The words of an entry.
+#[derive(Clone, Copy, Debug, PartialEq, Eq)]
+pub struct EntryWords {
+    pub column: u16,
+    pub selectors: u16,
+    pub alphas: u16,
 }
 
-// Where the header and entry readers stop.
-#[derive(Clone, Copy)]
+// Where the header and entry readers stop. Two of the three cases hold places, so a Result around them is no plainer.
+#[derive(Clone, Copy, Debug, PartialEq, Eq)]
 pub enum Stop {
     // At the end of the list: the place after its last word.
     End(usize),
@@ -47,11 +37,9 @@ pub enum Stop {
     },
 }
 
-// What stored bands give at a place of the display.
-#[derive(Clone, Copy)]
-pub enum LookAnswer {
-    // The words of four selectors and four alphas, colour 0 in the top nibble.
-    Found { selectors: u16, alphas: u16 },
-    // No band has an entry there.
-    Nothing,
+// Four selectors and four alphas, colour 0 in the top nibble of each.
+#[derive(Clone, Copy, Debug, PartialEq, Eq)]
+pub struct Four {
+    pub selectors: u16,
+    pub alphas: u16,
 }

@@ -1,7 +1,7 @@
 -- The table of cards: bytes, what the definitions make of them, and what that should be. Each layer has its part.
 -- Assumes nothing: these are definitions.
 use Rattle.std.specs.Prelude.{ℕ, suc, ◌-◌, ◌*◌, ◌/◌, true, false, cond, List, [], ◌∷◌, ◌++◌, length, replicate, ℤ, pos, negsuc}
-use Rattle.std.proofs.Math.Option.{Option, some, none}
+use Rattle.std.specs.Prelude.{Option, Some as some, None as none}
 use Rattle.outcome.specs.Outcome.{Res, ok, refuse, need, listed, bad_position}
 use Rattle.grammar.specs.IndexParts.{colon}
 use Rattle.grammar.specs.IndexCues.{Cue}
@@ -18,9 +18,7 @@ use Rattle.grammar.specs.Control.{forced_start, stop, selectors, alphas, area, o
 use Rattle.grammar.specs.Packets.{unit_of}
 use Rattle.grammar.specs.Record.{told, delay_of, width, height}
 use Rattle.rle_model.specs.Codes.{code_at}
-use Rattle.rle_model.specs.Nibbles.{nibble_at, nibble_answer, past_nibble, on_byte}
-use Rattle.rle_model.specs.declared.Nibble.{Nibble}
-use Rattle.rle_model.specs.declared.Nibble.TheVariants.{Is, Refused}
+use Rattle.rle_model.specs.Nibbles.{nibble_at, past_nibble, on_byte}
 use Rattle.rle_model.specs.Field.{decoded, paint_field}
 use Rattle.rle_model.specs.Answers.{nothing, field_counts}
 use Rattle.control_model.specs.Chain.{command}
@@ -58,12 +56,8 @@ code s =
     (code_at s (length s) 0)
 
 -- a reader of the nibbles of s at count p: the nibble that it reads, the count after that, and the count that it aligns to
-abbrev read : Nibble → List ℕ
-read (Is n) = 0 ∷ n ∷ []
-read (Refused n) = n ∷ []
-
 unfoldable pub reader : List ℕ → ℕ → List ℕ
-reader s p = read (nibble_answer (nibble_at s p)) ++ past_nibble s p ∷ on_byte p ∷ []
+reader s p = outcome (λ n. n ∷ []) (nibble_at s p) ++ past_nibble s p ∷ on_byte p ∷ []
 
 -- the field s read into the rows start, start + 2, .. of the map px: the numbers of codes and of clipped ones, and the
 -- map

@@ -4,18 +4,12 @@
 
 ghost use Rattle.std.specs.Prelude.{◌≡◌, ◌≤◌, ◌<◌, ◌-◌, ◌+◌, ◌*◌, ◌^◌, length, drop, set};
 ghost use Rattle.bands_model.specs.Claim.{Says};
-ghost use Rattle.bands_model.specs.Bands.{word_of, header, head_of, entry_of, bands_of, entries_of};
-ghost use Rattle.outcome.specs.Outcome.{listed, IsOk};
+ghost use Rattle.bands_model.specs.Bands.{header, head_of, entry_of, bands_of, entries_of};
+ghost use Rattle.outcome.specs.Outcome.{listed, IsOk, answered};
 ghost use Rattle.bands_model.specs.Answers.{count_of, Stored, rest_of, Goes, Ahead, ListRead};
 
-use bands_model::{BandAnswer, EntryRead, Header, Stop};
-use outcome::{MANY_BANDS, NO_BAND_LIST};
-
-fn word(a: u8, b: u8) -> u16
-    ensures { result ≡ word_of a b }
-{
-    a as u16 * 256 + b as u16
-}
+use bands_model::{EntryWords, Header, Stop};
+use outcome::{Refusal, put, word};
 
 // What two words say where a header may stand.
 fn header_of(a: u16, b: u16) -> Header
@@ -48,30 +42,25 @@ fn read_head(p: &[u8]) -> Header
 }
 
 // An entry at the front of p that starts at column lo or right of it.
-fn read_entry(p: &[u8], lo: u32) -> EntryRead
+fn read_entry(p: &[u8], lo: u32) -> Option<EntryWords>
     ensures { result ≡ entry_of p.now lo }
 {
     if p.len() < 6 {
-        return EntryRead::Bad;
+        return None;
     }
     let col = word(p[0], p[1]);
     if (col as u32) < lo {
-        return EntryRead::Bad;
+        return None;
     }
-    EntryRead::Got(col, word(p[2], p[3]), word(p[4], p[5]))
+    Some(EntryWords {
+        column: col,
+        selectors: word(p[2], p[3]),
+        alphas: word(p[4], p[5]),
+    })
 }
 
 // The readers below call each other at most so often before they hand back, which bounds the stack they take.
 const DEEPEST: usize = 4;
-
-// A word stored at a place, where there is room for it.
-fn put(out: &mut [u16], at: usize, word: u16)
-    ensures { out.new ≡ set out.old at word }
-{
-    if at < out.len() {
-        out[at] = word;
-    }
-}
 
 // Three words from `at` on.
 fn put3(out: &mut [u16], at: usize, a: u16, b: u16, c: u16)
@@ -125,13 +114,20 @@ fn entries_from(p: &[u8], left: u16, lo: u32, deep: usize, out: &mut [u16], at: 
         };
     }
     match read_entry(p, lo) {
-        EntryRead::Bad => Stop::Bad,
-        EntryRead::Got(col, selectors, alphas) => {
-            put3(out, at, col, selectors, alphas);
+        None => Stop::Bad,
+        Some(entry) => {
+            put3(out, at, entry.column, entry.selectors, entry.alphas);
             if left == 1 {
                 return bands_from(&p[6..], deep - 1, out, at + 3);
             }
-            entries_from(&p[6..], left - 1, col as u32 + 1, deep - 1, out, at + 3)
+            entries_from(
+                &p[6..],
+                left - 1,
+                entry.column as u32 + 1,
+                deep - 1,
+                out,
+                at + 3,
+            )
         }
     }
 }
@@ -144,31 +140,19 @@ struct Run {
 }
 
 // Reads bands from a header on, up to the first that has entries or to what is no band, and stores their words from `from` on where there is
-// room. No reader hands on to the other there, so it is a loop.
+// room. No reader hands on to the other there, so it is a loop; it goes on by what was read.
 fn bare_bands(p: &[u8], out: &mut [u16], from: usize) -> Run
     requires { from + length p.now < 2 ^ 64 }
     ensures { Ahead p.now (bands_of p.now) (bands_of (drop result.taken p.now)) from out.old result.taken result.at out.new }
 {
     let mut i: usize = 0;
     let mut at = from;
-    loop {
-        match read_head(&p[i..]) {
-            Header::End => {
-                return Run { taken: i, at };
-            }
-            Header::Bad => {
-                return Run { taken: i, at };
-            }
-            Header::Band(first, last, left) => {
-                if 0 < left {
-                    return Run { taken: i, at };
-                }
-                put3(out, at, first, last, left);
-                i += 4;
-                at += 3;
-            }
-        }
+    while let Header::Band(first, last, 0) = read_head(&p[i..]) {
+        put3(out, at, first, last, 0);
+        i += 4;
+        at += 3;
     }
+    Run { taken: i, at }
 }
 
 // How far entries go: the bytes taken, the place after the last word, the entries to go and the least column of the next.
@@ -189,24 +173,16 @@ fn inner_entries(p: &[u8], count: u16, least: u32, out: &mut [u16], from: usize)
     let mut at = from;
     let mut left = count;
     let mut lo = least;
+    // It goes on by what was read: no index is counted.
     while 1 < left {
-        match read_entry(&p[i..], lo) {
-            EntryRead::Bad => {
-                return EntryRun {
-                    taken: i,
-                    at,
-                    left,
-                    lo,
-                };
-            }
-            EntryRead::Got(col, selectors, alphas) => {
-                put3(out, at, col, selectors, alphas);
-                i += 6;
-                at += 3;
-                left = left - 1;
-                lo = col as u32 + 1;
-            }
-        }
+        let Some(entry) = read_entry(&p[i..], lo) else {
+            break;
+        };
+        put3(out, at, entry.column, entry.selectors, entry.alphas);
+        i += 6;
+        at += 3;
+        left -= 1;
+        lo = entry.column as u32 + 1;
     }
     EntryRun {
         taken: i,
@@ -232,21 +208,22 @@ fn go_on(p: &[u8], left: u16, lo: u32, out: &mut [u16], at: usize) -> Stop
 }
 
 // The number of words of the band list, stored from `from` on where there is room.
-fn read_list(payload: &[u8], out: &mut [u16], from: usize) -> BandAnswer
+fn read_list(payload: &[u8], out: &mut [u16], from: usize) -> Result<usize, Refusal>
     requires { from + length payload.now < 2 ^ 64 }
-    ensures { ListRead payload.now from out.old result out.new }
+    ensures { ListRead payload.now from out.old (answered result) out.new }
 {
     let mut rest = payload.len();
     let mut left: u16 = 0;
     let mut lo: u32 = 0;
     let mut at = from;
+    // It goes on by what was read: no index is counted.
     loop {
         match go_on(&payload[payload.len() - rest..], left, lo, out, at) {
             Stop::End(to) => {
-                return BandAnswer::Words(to - from);
+                return Ok(to - from);
             }
             Stop::Bad => {
-                return BandAnswer::Refused(NO_BAND_LIST);
+                return Err(Refusal::NoBandList);
             }
             Stop::More {
                 rest: bytes,
@@ -265,8 +242,8 @@ fn read_list(payload: &[u8], out: &mut [u16], from: usize) -> BandAnswer
 
 // How many words the bands in a payload take.
 // Ruled out: one to three bytes left taken for the end; a band counted whose entries do not rise.
-pub fn count_words(payload: &[u8]) -> BandAnswer
-    ensures { result ≡ count_of 0 (bands_of payload.now) }
+pub fn count_words(payload: &[u8]) -> Result<usize, Refusal>
+    ensures { answered result ≡ count_of 0 (bands_of payload.now) }
 {
     let mut none = [0u16; 1];
     read_list(payload, &mut none, 0)
@@ -279,42 +256,38 @@ pub const MOST_WORDS: usize = 1536;
 
 // The bands in a payload, whose words were counted and are no more than the array has, in the array if they are not too
 // many.
-fn put_bands(payload: &[u8], count: usize, bands: &mut [u16; 1536]) -> BandAnswer
+fn put_bands(payload: &[u8], count: usize, bands: &mut [u16; 1536]) -> Result<usize, Refusal>
     requires { (IsOk (bands_of payload.now)) × (count ≡ length (listed (bands_of payload.now))) × (count ≤ 1536) }
-    ensures { Stored payload.now bands.old result bands.new }
+    ensures { Stored payload.now bands.old (answered result) bands.new }
 {
     let mut words = [0u16; 1536];
-    store_words(payload, &mut words[..], 0);
+    store_words(payload, &mut words[..], 0)?;
     if MOST_BANDS < look::count_bands(&words[..count]) {
-        return BandAnswer::Refused(MANY_BANDS);
+        return Err(Refusal::ManyBands);
     }
     *bands = words;
-    BandAnswer::Words(count)
+    Ok(count)
 }
 
 // The bands in a payload, at most 32 of them: their words in the front of the array, and 0 after them. On a refusal the
 // array is as found.
 // Ruled out: the array written before the list is known to be whole and short enough; words counted in place of bands.
-pub fn parse_chg_colcon_payload(payload: &[u8], bands: &mut [u16; 1536]) -> BandAnswer
-    ensures { Stored payload.now bands.old result bands.new × Says payload.now bands.old bands.new result }
+pub fn parse_chg_colcon_payload(payload: &[u8], bands: &mut [u16; 1536]) -> Result<usize, Refusal>
+    ensures { Stored payload.now bands.old (answered result) bands.new × Says payload.now bands.old bands.new (answered result) }
 {
-    match count_words(payload) {
-        BandAnswer::Words(n) => {
-            if MOST_WORDS < n {
-                return BandAnswer::Refused(MANY_BANDS);
-            }
-            put_bands(payload, n, bands)
-        }
-        BandAnswer::Refused(number) => BandAnswer::Refused(number),
+    let n = count_words(payload)?;
+    if MOST_WORDS < n {
+        return Err(Refusal::ManyBands);
     }
+    put_bands(payload, n, bands)
 }
 
 // The bands in a payload, which were counted before and for which there is room, stored from place `at` of the words
 // on.
 // Ruled out: words before `at` or behind the last one changed; words counted that are not stored.
-pub fn store_words(payload: &[u8], words: &mut [u16], at: usize) -> BandAnswer
+pub fn store_words(payload: &[u8], words: &mut [u16], at: usize) -> Result<usize, Refusal>
     requires { (IsOk (bands_of payload.now)) × (at + length (listed (bands_of payload.now)) ≤ length words.old) }
-    ensures { ListRead payload.now at words.old result words.new }
+    ensures { ListRead payload.now at words.old (answered result) words.new }
 {
     read_list(payload, words, at)
 }

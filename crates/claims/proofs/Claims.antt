@@ -4,12 +4,12 @@ use Prim.Native.Nat.{ℕ, ◌+◌, ◌*◌, ◌/◌, ◌≤◌, ◌<◌, min}
 use mathlib.Core.Path.{◌≡◌, refl}
 use mathlib.Core.Bool.{Bool, true, false}
 use mathlib.Core.Logic.{◌↔◌}
-use mathlib.Core.Option.{some, none}
+use Rattle.std.specs.Prelude.{Some as some, None as none}
 use mathlib.Core.List.{List, [], ◌∷◌, ◌++◌}
 use lib.ListN.{length, get_or, set, replicate}
 use lib.Seq.{sets}
 use lib.IntN.{ℤ, pos, ◌+ℤ◌}
-use Rattle.outcome.specs.Outcome.{refuse, InTable, large_position, short_cues, no_cue, many_bands, long_instant}
+use Rattle.outcome.specs.Outcome.{Res, ok, refuse, IsOk, InTable, large_position, short_cues, no_cue, many_bands, long_instant}
 use Rattle.outcome.proofs.Numbers.{no_23}
 use Rattle.grammar.specs.Bytes.{byte}
 use Rattle.grammar.specs.Bands.{Band, Bands, band_words, record_words}
@@ -33,18 +33,17 @@ use Rattle.grammar.proofs.Clipped.{clipped-paints, clipped-cut, unclipped-whole,
 use Rattle.grammar.proofs.Limit.{most_words-hold, record-length}
 use Rattle.grammar.proofs.Times.{shown_at_lem, hidden_at, not-shown, not_hidden, times_stay_lem}
 use Rattle.grammar.proofs.Streams.{walk_same}
-use Rattle.clock_model.specs.Answers.{micros, time_or0}
+use Rattle.clock_model.specs.Answers.{micros, micros_in}
 use Rattle.grammar.proofs.NoBytes.{no_bytes-listed, only-no_bytes, no_bytes-reading, no_bytes-read, grey-entries, grey_rule, bytes-black}
 use Rattle.grammar.proofs.Positions.{large_text, large_unread, positions-stored, seventeen-large}
-use Rattle.rle_model.specs.declared.FieldAnswer.{FieldAnswer}
+use Rattle.rle_model.specs.declared.Counts.{Counts}
 use Rattle.rle_model.specs.Answers as field
 use Rattle.rle_model.specs.Claim as FieldClaim
 use Rattle.rle_model.proofs.Claim as FieldProof
-use Rattle.bands_model.specs.declared.BandAnswer.{BandAnswer}
 use Rattle.bands_model.specs.Answers.{Stored}
 use Rattle.bands_model.specs.Claim as BandsClaim
 use Rattle.bands_model.proofs.Claim as BandsProof
-use Rattle.ps_model.specs.declared.UnitAnswer.{UnitAnswer}
+use Rattle.ps_model.specs.declared.UnitAt.{UnitAt}
 use Rattle.ps_model.specs.Answers.{Extracted, unit_stored}
 use Rattle.ps_model.specs.Claim as PsClaim
 use Rattle.ps_model.proofs.Claim as PsProof
@@ -58,20 +57,18 @@ use Rattle.idx_model.proofs.Claim.{idx_claim, cue-claim}
 use Rattle.idx_model.proofs.Large.{held_whole, read-large, large_refused, picked_large, large_unpicked}
 use Rattle.idx_model.proofs.NoBytes.{read_short, read-stored, picked_first, picked_other, blanks-listed, blanks_cueless, blanks-read, blanks_picked, blanks_unread}
 use Rattle.spu_model.specs.declared.Record.{Record}
-use Rattle.spu_model.specs.declared.SpuAnswer.{SpuAnswer}
+use Rattle.control_model.specs.declared.Spu.{Spu}
 use Rattle.spu_model.specs.Unit.{unit_at}
 use Rattle.spu_model.specs.Answers as unit
 use Rattle.spu_model.specs.Claim as UnitClaim
 use Rattle.spu_model.proofs.Claim as UnitProof
 use Rattle.spu_model.proofs.Many.{unit-many}
-use Rattle.demo_model.specs.declared.DemoAnswer.{DemoAnswer}
 use Rattle.demo_model.specs.Answers as demo
 use Rattle.demo_model.specs.Codes.{Mark, Proper, painted, run_size}
 use Rattle.demo_model.specs.Claim.{RoundTrips}
 use Rattle.demo_model.proofs.Marks.{shortest}
 use Rattle.demo_model.proofs.Claim as DemoProof
 use Rattle.vobsub_model.specs.declared.Shown.{Shown}
-use Rattle.vobsub_model.specs.declared.CanvasAnswer.{CanvasAnswer}
 use Rattle.vobsub_model.specs.Call.{Lent, listed_in}
 use Rattle.vobsub_model.specs.Answers.{CuePainted}
 use Rattle.vobsub_model.specs.Claim.{Gives, Room, Exactly, Undisturbed}
@@ -88,16 +85,16 @@ use Rattle.listing_model.proofs.Claim as ListingProof
 -- Whole files (`decode_cue`): a canvas is given exactly where the files have a reading for the cue and the stream and
 -- the buffers are long enough, no files have two readings for one cue and stream, and times, origin, size, the numbers
 -- of codes and of clipped ones and every byte of the canvas are the reading's.
-pub whole_files : (text file : List ℕ) (q : Wanted) (b : Lent) (r : CanvasAnswer) (b' : Lent)
+pub whole_files : (text file : List ℕ) (q : Wanted) (b : Lent) (r : Res Shown) (b' : Lent)
     → CuePainted text file q b r b' → Exactly text file q b r b'
 whole_files text file q b r b' d = VobsubProof.claim text file q b r b' d
 
 -- Clipped codes (`decode_cue`): their number is how many of the codes that the reading lists name a run longer than
 -- what is left of their row; a reading has no more of them than lines, and no more than codes. A clipped code paints
 -- less than its run, and any other that is no fill its whole run.
-pub clipped_codes : (text file : List ℕ) (q : Wanted) (b : Lent) (r : CanvasAnswer) (b' : Lent)
+pub clipped_codes : (text file : List ℕ) (q : Wanted) (b : Lent) (r : Res Shown) (b' : Lent)
     → CuePainted text file q b r b'
-    → (s : Shown) → r ≡ CanvasAnswer.Paints s → (x : Reading) → IsReading text file q x
+    → (s : Shown) → r ≡ ok s → (x : Reading) → IsReading text file q x
     → s.clipped ≡ clipped_in (width (told_by x)) x.unit.rows
 clipped_codes text file q b r b' d s p x h = VobsubProof.clipped_codes text file q b r b' d s p x h
 
@@ -116,10 +113,10 @@ an_unclipped_run = unclipped-whole
 -- stop; without a start there is neither, without a stop no hide time. Each stays in signed 64 bits: where text, cue,
 -- stream, position, form, unit and room are in order 33 is returned exactly where one leaves, and where one of them is
 -- not (`listed_in` refuses) its refusal keeps its number.
-pub show_and_hide : (text file : List ℕ) (q : Wanted) (b : Lent) (r : CanvasAnswer) (b' : Lent)
-    → CuePainted text file q b r b' → (s : Shown) → r ≡ CanvasAnswer.Paints s → (x : Reading) → IsReading text file q x
+pub show_and_hide : (text file : List ℕ) (q : Wanted) (b : Lent) (r : Res Shown) (b' : Lent)
+    → CuePainted text file q b r b' → (s : Shown) → r ≡ ok s → (x : Reading) → IsReading text file q x
     → (s.started ≡ given (told_by x).starts) × (s.stopped ≡ given (told_by x).stops)
-    × (s.show.0 ≡ time_or0 (show_of x)) × (s.hides ≡ given (hide_of x)) × (s.hide.0 ≡ time_or0 (hide_of x))
+    × (s.show ≡ micros_in (show_of x)) × (s.hide ≡ micros_in (hide_of x))
 show_and_hide text file q b r b' d s p x h = VobsubProof.shown_times_lem text file q b r b' d s p x h
 
 pub a_show_time : (x : Reading) (d : ℕ) → (told_by x).starts ≡ some d
@@ -140,25 +137,25 @@ pub times_in_64_bits : (text file : List ℕ) (q : Wanted) (x : Reading) → IsR
     → TimeStays (shown x).show × TimeStays (shown x).hide
 times_in_64_bits = times_stay_lem
 
-pub refused_33 : (text file : List ℕ) (q : Wanted) (b : Lent) (r : CanvasAnswer) (b' : Lent)
+pub refused_33 : (text file : List ℕ) (q : Wanted) (b : Lent) (r : Res Shown) (b' : Lent)
     → CuePainted text file q b r b' → (x : Reading) (c : Cue) → IsText text x.text → x.cue ≡ q.cue
     → q.stream ≤ top_stream → cue_at (cues_of x.text) x.cue ≡ some c → c.position < length file
     → IsForm (wanted_id q) file c.position x.form → IsUnit (unit_of x.form) x.unit → Room x b
-    → (r ≡ CanvasAnswer.Refused long_instant) ↔ (TimeStays (show_of x) × TimeStays (hide_of x) → ⊥)
+    → (r ≡ refuse long_instant) ↔ (TimeStays (show_of x) × TimeStays (hide_of x) → ⊥)
 refused_33 = late-listed
 
-pub refused_before_33 : (text file : List ℕ) (q : Wanted) (b : Lent) (r : CanvasAnswer) (b' : Lent)
-    → CuePainted text file q b r b' → (n : ℕ) → listed_in text file q b ≡ refuse n → r ≡ CanvasAnswer.Refused n
+pub refused_before_33 : (text file : List ℕ) (q : Wanted) (b : Lent) (r : Res Shown) (b' : Lent)
+    → CuePainted text file q b r b' → (n : ℕ) → listed_in text file q b ≡ refuse n → r ≡ refuse n
 refused_before_33 = earlier
 
 -- Other streams (`decode_cue`, `extract_spu`, `cue_line`): a file that differs in packets of other streams alone, among
 -- those walked from the cue's position, gives the same readings, the same answer and the same buffers. Every place has
 -- a walk, so that this speaks of every file and position.
-pub other_streams : (text file : List ℕ) (q : Wanted) (b : Lent) (r : CanvasAnswer) (b' : Lent)
+pub other_streams : (text file : List ℕ) (q : Wanted) (b : Lent) (r : Res Shown) (b' : Lent)
     → CuePainted text file q b r b' → Undisturbed text file q b r b'
 other_streams text file q b r b' d = VobsubStreams.undisturbed text file q b r b' d
 
-pub other_streams_unit : (f : List ℕ) (p n : ℕ) (s : List ℕ) (r : UnitAnswer) (s' : List ℕ) → Extracted f p n s r s'
+pub other_streams_unit : (f : List ℕ) (p n : ℕ) (s : List ℕ) (r : Res UnitAt) (s' : List ℕ) → Extracted f p n s r s'
     → PsClaim.Undisturbed f p n s r s'
 other_streams_unit f p n s r s' d = PsProof.undisturbed f p n s r s' d
 
@@ -187,22 +184,22 @@ pub words_of_32_bands : (u : List ℕ) → ((i : ℕ) → byte u i < 256) → (l
     → (length (band_words (told l.blocks).bands) ≤ 1536) × (length (record_words (told l.blocks).bands) ≡ 1536)
 words_of_32_bands u s l h = let w = most_words-hold u s l.blocks h.chain h.few in (w, record-length (told l.blocks).bands w)
 
-pub refused_34 : (text file : List ℕ) (q : Wanted) (b : Lent) (r : CanvasAnswer) (b' : Lent)
+pub refused_34 : (text file : List ℕ) (q : Wanted) (b : Lent) (r : Res Shown) (b' : Lent)
     → CuePainted text file q b r b' → (t : ListedText) (c : Cue) (m : Form) (bs : List Block) → IsText text t
     → q.stream ≤ top_stream → cue_at (cues_of t) q.cue ≡ some c → c.position < length file
     → IsForm (wanted_id q) file c.position m → scratch_for m ≤ length b.scratch → IsChain (unit_of m) bs
     → (told bs).at.x1 ≤ (told bs).at.x2 → (told bs).at.y1 ≤ (told bs).at.y2
-    → (r ≡ CanvasAnswer.Refused many_bands) ↔ (32 < length (told bs).bands)
+    → (r ≡ refuse many_bands) ↔ (32 < length (told bs).bands)
 refused_34 = many-listed
 
 pub a_unit_34 : (u : List ℕ) (bs : List Block) → IsChain u bs → (told bs).at.x1 ≤ (told bs).at.x2
     → (told bs).at.y1 ≤ (told bs).at.y2
-    → (px : List ℕ) (r : Record) (px' : List ℕ) → unit.Decoded u px r px' → (r.refused ≡ many_bands) ↔ (32 < length (told bs).bands)
+    → (px : List ℕ) (r : Res Record) (px' : List ℕ) → unit.Decoded u px r px' → (r ≡ refuse many_bands) ↔ (32 < length (told bs).bands)
 a_unit_34 = unit-many
 
-pub a_payload_34 : (s : List ℕ) → ((i : ℕ) → byte s i < 256) → (ws : List ℕ) (r : BandAnswer) (ws' : List ℕ)
+pub a_payload_34 : (s : List ℕ) → ((i : ℕ) → byte s i < 256) → (ws : List ℕ) (r : Res ℕ) (ws' : List ℕ)
     → Stored s ws r ws'
-    → (r ≡ BandAnswer.Refused many_bands) ↔ ((bs : List Band) × Bands s (length s) 0 bs × (32 < length bs))
+    → (r ≡ refuse many_bands) ↔ ((bs : List Band) × Bands s (length s) 0 bs × (32 < length bs))
 a_payload_34 = BandsProof.payload_many
 
 pub never_23 : InTable 23 → ⊥
@@ -210,11 +207,11 @@ never_23 = no_23
 
 -- A unit (`parse_and_decode_spu`, `measure_spu`): a record is given exactly where the grammar lists the unit and the
 -- map is long enough.
-pub a_unit : (u : List ℕ) → ((i : ℕ) → byte u i < 256) → (px : List ℕ) (r : Record) (px' : List ℕ)
+pub a_unit : (u : List ℕ) → ((i : ℕ) → byte u i < 256) → (px : List ℕ) (r : Res Record) (px' : List ℕ)
     → unit.Decoded u px r px' → UnitClaim.Says u px px' r
 a_unit u s px r px' d = UnitProof.claim u s px r px' d
 
-pub a_unit_measured : (u : List ℕ) (r : SpuAnswer) → r ≡ unit.spu_answer (unit_at u) → UnitClaim.Measures u r
+pub a_unit_measured : (u : List ℕ) (r : Res Spu) → r ≡ unit.spu_answer (unit_at u) → UnitClaim.Measures u r
 a_unit_measured u r d = UnitProof.measures u r d
 
 pub one_unit : (u : List ℕ) (a b : ListedUnit) → IsUnit u a → IsUnit u b → a ≡ b
@@ -222,7 +219,7 @@ one_unit = unit-unique
 
 -- A position (`extract_spu`): a unit is found exactly where there is such a stream, the grammar lists a unit of it
 -- there, bare or in packets, and scratch is long enough.
-pub a_position : (f : List ℕ) (p n : ℕ) (s : List ℕ) (r : UnitAnswer) (s' : List ℕ) → Extracted f p n s r s'
+pub a_position : (f : List ℕ) (p n : ℕ) (s : List ℕ) (r : Res UnitAt) (s' : List ℕ) → Extracted f p n s r s'
     → PsClaim.Says f p n s s' r
 a_position f p n s r s' d = PsProof.claim f p n s r s' d
 
@@ -230,7 +227,7 @@ pub one_position : (id : ℕ → Bool) (f : List ℕ) (p : ℕ) (a b : Form) →
 one_position = form_unique
 
 -- A field (`decode_rle_field`): it is accepted exactly where the grammar lists its rows and the map holds the picture.
-pub a_field : (s : List ℕ) (w h start : ℕ) (px : List ℕ) (r : FieldAnswer) (px' : List ℕ)
+pub a_field : (s : List ℕ) (w h start : ℕ) (px : List ℕ) (r : Res Counts) (px' : List ℕ)
     → field.Decoded s w h start px r px' → FieldClaim.Says s w h start px px' r
 a_field s w h start px r px' d = FieldProof.claim s w h start px r px' d
 
@@ -240,7 +237,7 @@ one_field = field-unique
 
 -- A payload of colour bands (`parse_chg_colcon_payload`): it is accepted exactly where the grammar lists bands, at
 -- most 32.
-pub a_payload : (s : List ℕ) → ((i : ℕ) → byte s i < 256) → (ws : List ℕ) (r : BandAnswer) (ws' : List ℕ)
+pub a_payload : (s : List ℕ) → ((i : ℕ) → byte s i < 256) → (ws : List ℕ) (r : Res ℕ) (ws' : List ℕ)
     → Stored s ws r ws' → BandsClaim.Says s ws ws' r
 a_payload s h ws r ws' d = BandsProof.claim s h ws r ws' d
 
@@ -249,11 +246,11 @@ one_payload = bands-unique
 
 -- An index text (`parse_idx`), and one cue of it (`pick_cue`): accepted exactly where the grammar lists it and there is
 -- room for its cues, and where it has the cue; all that is given is the listed text's.
-pub a_text : (text : List ℕ) (starts : List ℤ) (positions : List ℕ) (r : IdxAnswer) (starts' : List ℤ) (positions' : List ℕ)
+pub a_text : (text : List ℕ) (starts : List ℤ) (positions : List ℕ) (r : Res IdxAnswer) (starts' : List ℤ) (positions' : List ℕ)
     → IdxRead text starts positions r starts' positions' → IdxSays text starts positions r starts' positions'
 a_text = idx_claim
 
-pub a_cue : (text : List ℕ) (n : ℕ) (r : CueAnswer) → r ≡ cue_answer (pick_of (idx_of text) n) → CueSays text n r
+pub a_cue : (text : List ℕ) (n : ℕ) (r : Res CueAnswer) → r ≡ cue_answer (pick_of (idx_of text) n) → CueSays text n r
 a_cue = cue-claim
 
 pub one_text : (text : List ℕ) (a b : ListedText) → IsText text a → IsText text b → a ≡ b
@@ -272,9 +269,9 @@ pub positions_in_32_bits : (text : List ℕ) (t : ListedText) → IsText text t 
     → cue_at (cues_of t) n ≡ some c → c.position ≤ 4294967295
 positions_in_32_bits = positions-stored
 
-pub stored_whole : (text : List ℕ) (starts : List ℤ) (positions : List ℕ) (r : IdxAnswer)
+pub stored_whole : (text : List ℕ) (starts : List ℤ) (positions : List ℕ) (r : Res IdxAnswer)
     (starts' : List ℤ) (positions' : List ℕ)
-    → IdxRead text starts positions r starts' positions' → (t : ListedText) → IsText text t → r.refused ≡ 0
+    → IdxRead text starts positions r starts' positions' → (t : ListedText) → IsText text t → (a : IdxAnswer) → r ≡ ok a
     → (n : ℕ) (c : Cue) → cue_at (cues_of t) n ≡ some c → (get_or positions' n 0 ≡ c.position) × (c.position ≤ 4294967295)
 stored_whole = held_whole
 
@@ -284,34 +281,34 @@ pub larger_unlisted : (text : List ℕ) → LargeIn text
 larger_unlisted text h = (large_text text h, large_unread text h)
 
 pub larger_parsed : (text : List ℕ) → LargeIn text
-    → (starts : List ℤ) (positions : List ℕ) (r : IdxAnswer) (starts' : List ℤ) (positions' : List ℕ)
+    → (starts : List ℤ) (positions : List ℕ) (r : Res IdxAnswer) (starts' : List ℤ) (positions' : List ℕ)
     → IdxRead text starts positions r starts' positions'
-    → (r.refused ≡ 0 → ⊥) × (starts' ≡ starts) × (positions' ≡ positions)
+    → (IsOk r → ⊥) × (starts' ≡ starts) × (positions' ≡ positions)
 larger_parsed = large_refused
 
 pub larger_unpicked : (text : List ℕ) → LargeIn text
-    → (n : ℕ) (r : CueAnswer) → r ≡ cue_answer (pick_of (idx_of text) n) → r.refused ≡ 0 → ⊥
+    → (n : ℕ) (r : Res CueAnswer) → r ≡ cue_answer (pick_of (idx_of text) n) → IsOk r → ⊥
 larger_unpicked = large_unpicked
 
 pub larger_unpainted : (text file : List ℕ) (q : Wanted) (b : Lent) → LargeIn text
-    → (r : CanvasAnswer) (b' : Lent) → CuePainted text file q b r b'
+    → (r : Res Shown) (b' : Lent) → CuePainted text file q b r b'
     → (Gives r → ⊥) × (b'.scratch ≡ b.scratch) × (b'.pixels ≡ b.pixels) × (b'.canvas ≡ b.canvas)
 larger_unpainted = large_unpainted
 
-pub parsed_41 : (text : List ℕ) (starts : List ℤ) (positions : List ℕ) (r : IdxAnswer)
+pub parsed_41 : (text : List ℕ) (starts : List ℤ) (positions : List ℕ) (r : Res IdxAnswer)
     (starts' : List ℤ) (positions' : List ℕ)
     → IdxRead text starts positions r starts' positions'
-    → (r.refused ≡ large_position)
+    → (r ≡ refuse large_position)
     ↔ ((ls : List Said) × FirstLarge text ls × (length (cues_of_lines ls) ≤ min (length starts) (length positions)))
 parsed_41 = read-large
 
-pub picked_41 : (text : List ℕ) (n : ℕ) (r : CueAnswer) → r ≡ cue_answer (pick_of (idx_of text) n)
-    → (r.refused ≡ large_position) ↔ ((ls : List Said) × FirstLarge text ls)
+pub picked_41 : (text : List ℕ) (n : ℕ) (r : Res CueAnswer) → r ≡ cue_answer (pick_of (idx_of text) n)
+    → (r ≡ refuse large_position) ↔ ((ls : List Said) × FirstLarge text ls)
 picked_41 = picked_large
 
-pub refused_41 : (text file : List ℕ) (q : Wanted) (b : Lent) (r : CanvasAnswer) (b' : Lent)
+pub refused_41 : (text file : List ℕ) (q : Wanted) (b : Lent) (r : Res Shown) (b' : Lent)
     → CuePainted text file q b r b'
-    → (r ≡ CanvasAnswer.Refused large_position) ↔ ((ls : List Said) × FirstLarge text ls)
+    → (r ≡ refuse large_position) ↔ ((ls : List Said) × FirstLarge text ls)
 refused_41 = call_large
 
 pub seventeen_digits :
@@ -330,33 +327,32 @@ an_empty_index = no_bytes-listed
 pub no_other_text : (text p : List ℕ) → IsText text (no_bytes p) → (text ≡ []) × (p ≡ greys)
 no_other_text = only-no_bytes
 
-pub an_empty_index_short : (starts : List ℤ) (positions : List ℕ) (r : IdxAnswer)
+pub an_empty_index_short : (starts : List ℤ) (positions : List ℕ) (r : Res IdxAnswer)
     (starts' : List ℤ) (positions' : List ℕ)
     → IdxRead [] starts positions r starts' positions' → min (length starts) (length positions) ≡ 0
-    → (r.refused ≡ short_cues) × (starts' ≡ starts) × (positions' ≡ positions)
+    → (r ≡ refuse short_cues) × (starts' ≡ starts) × (positions' ≡ positions)
 an_empty_index_short = read_short
 
-pub an_empty_index_stored : (starts : List ℤ) (positions : List ℕ) (r : IdxAnswer)
+pub an_empty_index_stored : (starts : List ℤ) (positions : List ℕ) (r : Res IdxAnswer)
     (starts' : List ℤ) (positions' : List ℕ)
     → IdxRead [] starts positions r starts' positions' → 0 < min (length starts) (length positions)
-    → (r ≡ record { refused = 0; width = 0; height = 0; has_palette = false; palette = greys; cues = 1 })
+    → (r ≡ ok (record { width = 0; height = 0; has_palette = false; palette = greys; cues = 1 }))
     × (starts' ≡ set starts 0 (pos 0)) × (positions' ≡ set positions 0 0)
 an_empty_index_stored = read-stored
 
-pub its_cue : (r : CueAnswer) → r ≡ cue_answer (pick_of (idx_of []) 0)
+pub its_cue : (r : Res CueAnswer) → r ≡ cue_answer (pick_of (idx_of []) 0)
     → r
-    ≡ record {
-      refused = 0;
+    ≡ ok
+    (record {
       start = micros (pos 0);
       position = 0;
-      has_duration = false;
-      duration = micros (pos 0);
+      duration = none;
       has_palette = false;
       palette = greys;
-    }
+    })
 its_cue = picked_first
 
-pub no_other_cue : (n : ℕ) (r : CueAnswer) → r ≡ cue_answer (pick_of (idx_of []) n) → 0 < n → r.refused ≡ no_cue
+pub no_other_cue : (n : ℕ) (r : Res CueAnswer) → r ≡ cue_answer (pick_of (idx_of []) n) → 0 < n → r ≡ refuse no_cue
 no_other_cue = picked_other
 
 pub its_readings : (file : List ℕ) (q : Wanted) (x : Reading) → IsReading [] file q x
@@ -370,9 +366,9 @@ pub every_front_unit : (file : List ℕ) (q : Wanted) (m : Form) (u : ListedUnit
     → IsReading [] file q (record { text = no_bytes greys; cue = 0; form = m; unit = u })
 every_front_unit = no_bytes-read
 
-pub an_empty_index_painted : (file : List ℕ) (q : Wanted) (b : Lent) (r : CanvasAnswer) (b' : Lent)
-    → CuePainted [] file q b r b' → (s : Shown) → r ≡ CanvasAnswer.Paints s
-    → (q.cue ≡ 0) × (s.start.0 ≡ pos 0) × (s.has_duration ≡ false)
+pub an_empty_index_painted : (file : List ℕ) (q : Wanted) (b : Lent) (r : Res Shown) (b' : Lent)
+    → CuePainted [] file q b r b' → (s : Shown) → r ≡ ok s
+    → (q.cue ≡ 0) × (s.start.0 ≡ pos 0) × (s.duration ≡ none)
     × ((m : Form) × (u : ListedUnit) × IsForm (wanted_id q) file 0 m × IsUnit (unit_of m) u
     × (b'.canvas ≡ sets b.canvas 0 (unit_canvas greys u)))
 an_empty_index_painted = painted-grey
@@ -388,14 +384,14 @@ pub blanks_no_cue : (text : List ℕ) → All blank text → (text ≡ [] → �
 blanks_no_cue = blanks_cueless
 
 pub blanks_parsed : (text : List ℕ) → All blank text → (text ≡ [] → ⊥)
-    → (starts : List ℤ) (positions : List ℕ) (r : IdxAnswer) (starts' : List ℤ) (positions' : List ℕ)
+    → (starts : List ℤ) (positions : List ℕ) (r : Res IdxAnswer) (starts' : List ℤ) (positions' : List ℕ)
     → IdxRead text starts positions r starts' positions'
-    → (r ≡ record { refused = 0; width = 0; height = 0; has_palette = false; palette = replicate 48 0; cues = 0 })
+    → (r ≡ ok (record { width = 0; height = 0; has_palette = false; palette = replicate 48 0; cues = 0 }))
     × (starts' ≡ starts) × (positions' ≡ positions)
 blanks_parsed = blanks-read
 
 pub blanks_unpicked : (text : List ℕ) → All blank text → (text ≡ [] → ⊥)
-    → (n : ℕ) (r : CueAnswer) → r ≡ cue_answer (pick_of (idx_of text) n) → r.refused ≡ no_cue
+    → (n : ℕ) (r : Res CueAnswer) → r ≡ cue_answer (pick_of (idx_of text) n) → r ≡ refuse no_cue
 blanks_unpicked = blanks_picked
 
 pub blanks_unreadable : (text file : List ℕ) (q : Wanted) → All blank text → (text ≡ [] → ⊥)
@@ -408,7 +404,7 @@ black_otherwise = bytes-black
 
 -- The writer (`build_demo_spu`): for every picture that it accepts the grammar lists the unit with that width, height
 -- and map, and reading the unit gives them back, with no clipped code.
-pub a_picture : (w h : ℕ) (px out : List ℕ) (r : DemoAnswer) (out' : List ℕ) → demo.Written w h px out r out'
+pub a_picture : (w h : ℕ) (px out : List ℕ) (r : Res ℕ) (out' : List ℕ) → demo.Written w h px out r out'
     → RoundTrips w h px r out'
 a_picture = DemoProof.claim
 

@@ -3,38 +3,25 @@
 #![tactic(auto)]
 
 ghost use Rattle.std.specs.Prelude.{◌≡◌, pos, ◌+ℤ◌};
-ghost use Rattle.grammar.specs.Times.{in_micros};
+ghost use Rattle.grammar.specs.Times.{in_micros, show_time};
 ghost use Rattle.clock_model.specs.Sums.{checked};
-ghost use Rattle.clock_model.specs.Answers.{micros_count, delayed, times_answer};
+ghost use Rattle.outcome.specs.Outcome.{answered};
+ghost use Rattle.clock_model.specs.Answers.{micros_count, delay_in, instant_if, times_answer};
 
-use clock_model::{Micros, Num, Ticks, Times, TimesAnswer};
-use outcome::LONG_INSTANT;
+use clock_model::{Micros, Ticks, Times};
+use outcome::Refusal;
 
 // A sum, where it stays in signed 64 bits.
 // Ruled out: a sum that leaves at either end and comes back wrapped.
-pub fn plus(a: i64, b: i64) -> Num
+pub fn plus(a: i64, b: i64) -> Option<i64>
     ensures { result ≡ checked (a +ℤ b) }
 {
-    if a < 0 {
-        if b < 0 {
-            if a < -9223372036854775808 - b {
-                return Num::Over;
-            }
-            return Num::Is(a + b);
-        }
-        return Num::Is(a + b);
-    }
-    if b < 0 {
-        return Num::Is(a + b);
-    }
-    if a > 9223372036854775807 - b {
-        return Num::Over;
-    }
-    Num::Is(a + b)
+    a.checked_add(b)
 }
 
 // Ticks in microseconds, rounded down: the one way from a unit's clock to that of the index text.
 // Ruled out: ticks for microseconds; a quotient taken before the product.
+// No From: both types stand in clock_model, and README names this function.
 pub fn converted(t: Ticks) -> Micros
     ensures { result.0 ≡ pos (in_micros t.0) }
 {
@@ -47,56 +34,31 @@ pub fn converted(t: Ticks) -> Micros
 pub fn count_of(m: Micros) -> u64
     ensures { result ≡ micros_count m.0 }
 {
-    let z = m.0;
-    if z < 0 {
-        return 0;
-    }
-    z as u64
+    u64::try_from(m.0).unwrap_or(0)
 }
 
-// A cue's start, and a delay after it.
-fn later(start: Micros, delay: Ticks) -> Num
-    ensures { result ≡ checked (start.0 +ℤ pos (in_micros delay.0)) }
+// A cue's start and a delay after it, where there is one.
+fn later(start: Micros, delay: Option<Ticks>) -> Result<Option<Micros>, Refusal>
+    ensures { answered result ≡ instant_if (show_time start.0 (delay_in delay)) }
 {
-    let wait = converted(delay);
-    plus(start.0, wait.0)
+    let Some(ticks) = delay else {
+        return Ok(None);
+    };
+    let time = plus(start.0, converted(ticks).0).ok_or(Refusal::LongInstant)?;
+    Ok(Some(Micros(time)))
 }
 
-// When the picture of a cue is shown and hidden, by its unit's first start and last stop: without a start there is
-// neither time, without a stop it is not hidden.
+// When the picture of a cue is shown and hidden, by the delays of its unit's first start and last stop: without a start
+// there is neither time, without a stop it is not hidden.
 // Ruled out: a hide time of what is never shown; the delay of the start for that of the stop.
 pub fn times_of(
     start: Micros,
-    started: bool,
-    start_delay: Ticks,
-    stopped: bool,
-    stop_delay: Ticks,
-) -> TimesAnswer
-    ensures { result ≡ times_answer start.0 (delayed started start_delay.0) (delayed stopped stop_delay.0) }
+    starts: Option<Ticks>,
+    stops: Option<Ticks>,
+) -> Result<Times, Refusal>
+    ensures { answered result ≡ times_answer start.0 (delay_in starts) (delay_in stops) }
 {
-    if !started {
-        return TimesAnswer::Are(Times {
-            show: Micros(0),
-            hides: false,
-            hide: Micros(0),
-        });
-    }
-    let Num::Is(show) = later(start, start_delay) else {
-        return TimesAnswer::Refused(LONG_INSTANT);
-    };
-    if !stopped {
-        return TimesAnswer::Are(Times {
-            show: Micros(show),
-            hides: false,
-            hide: Micros(0),
-        });
-    }
-    let Num::Is(hide) = later(start, stop_delay) else {
-        return TimesAnswer::Refused(LONG_INSTANT);
-    };
-    TimesAnswer::Are(Times {
-        show: Micros(show),
-        hides: true,
-        hide: Micros(hide),
-    })
+    let show = later(start, starts)?;
+    let hide = later(start, starts.and(stops))?;
+    Ok(Times { show, hide })
 }

@@ -4,25 +4,22 @@ use native.Mathlib.Omega.{arith}
 use mathlib.Core.Path.{◌≡◌, refl, sym, ap, ◌∙◌}
 use mathlib.Core.Logic.{◌↔◌}
 use mathlib.Core.Bool.{Bool, true, false, cond, ◌&&◌}
-use mathlib.Core.Option.{Option, some, none}
-use lib.IntN.{ℤ, pos, ◌+ℤ◌}
+use Rattle.std.specs.Prelude.{Option, Some as some, None as none}
+use Rattle.std.specs.Option.{option_and}
+use lib.IntN.{ℤ}
 use lib.Signed.{mag}
 use borrow.Author.Tests.{lt-ltb, ltb-true}
-use mir.Syntax.{w64}
-use mir.Val.{to_z, of_z}
-use mir.ValLaws.{to_z-of_z}
 use Rattle.outcome.specs.Outcome.{Res, ok, refuse, check, map_res, long_instant}
-use Rattle.outcome.proofs.Laws.{clash}
+use Rattle.outcome.proofs.Laws.{clash, ok-not-refuse, ok-injective, refuse-injective, map_res-ok, map_res-refuse}
 use Rattle.grammar.specs.Record.{given, delay_of}
 use Rattle.grammar.specs.Index.{Stays}
-use Rattle.grammar.specs.Times.{in_micros, show_time, hide_time, TimeStays}
+use Rattle.grammar.specs.Times.{show_time, hide_time, TimeStays}
 use Rattle.clock_model.specs.Sums.{checked, pick, stays}
 use Rattle.clock_model.specs.Clock.{time_stays, times_stay, in_time}
-use Rattle.clock_model.specs.Answers.{micros, delayed, times_of, times_answer}
-use Rattle.clock_model.specs.declared.Num.TheVariants.{Over, Is}
+use Rattle.clock_model.specs.Answers.{micros, delayed, delay_in, micros_in, instant, instant_if, times_of, times_answer}
+use Rattle.clock_model.specs.declared.Ticks.{Ticks}
+use Rattle.clock_model.specs.declared.Micros.{Micros}
 use Rattle.clock_model.specs.declared.Times.{Times}
-use Rattle.clock_model.specs.declared.TimesAnswer.{TimesAnswer}
-use Rattle.clock_model.proofs.Sums.{from-checked}
 
 -- ---- Times that stay
 
@@ -67,60 +64,68 @@ delayed-is (some d) = refl
 
 -- ---- A sum, as the code has it
 
--- it stays, and the machine reads it back from its bits
-sum_is : (v y : ℤ) → checked v ≡ Is y → (stays v ≡ true) × (to_z w64 (of_z w64 y) ≡ v)
+-- it stays, or it leaves
+sum_is : (v y : ℤ) → checked v ≡ some y → (stays v ≡ true) × (y ≡ v)
 unfolding checked
 sum_is v y e = go (stays v) refl e
   where
-    go : (t : Bool) → stays v ≡ t → pick t (Is v) Over ≡ Is y
-        → (stays v ≡ true) × (to_z w64 (of_z w64 y) ≡ v)
-    go true q f = let p : y ≡ v = cc f in (q, to_z-of_z w64 y (from-checked v y e) ∙ p)
+    go : (t : Bool) → stays v ≡ t → pick t (some v) none ≡ some y → (stays v ≡ true) × (y ≡ v)
+    go true q f = (q, cc f)
     go false q f = let z : ◌≡◌ {A = ℕ} 0 1 = cc f in absurd (omega arith)
 
-sum_over : (v : ℤ) → checked v ≡ Over → stays v ≡ false
+sum_over : (v : ℤ) → checked v ≡ none → stays v ≡ false
 unfolding checked
 sum_over v e = go (stays v) refl e
   where
-    go : (t : Bool) → stays v ≡ t → pick t (Is v) Over ≡ Over → stays v ≡ false
+    go : (t : Bool) → stays v ≡ t → pick t (some v) none ≡ none → stays v ≡ false
     go true q f = let z : ◌≡◌ {A = ℕ} 0 1 = cc f in absurd (omega arith)
     go false q f = q
 
--- ---- The answer, by whether a start and a stop stand
+instant-is : (o : Option ℤ) (m : Micros) → instant o ≡ ok m → o ≡ some m.0
+instant-is none m e = ok-not-refuse e
+instant-is (some z) m e = let q : micros z ≡ m = ok-injective e in ap (λ (x : Micros). some x.0) q
 
-abbrev are : ℤ → Bool → ℤ → TimesAnswer
-are show hides hide = TimesAnswer.Are (record { show = micros show; hides = hides; hide = micros hide })
+instant-over : (o : Option ℤ) (n : ℕ) → instant o ≡ refuse n → (o ≡ none) × (n ≡ long_instant)
+instant-over none n e = (refl, sym (refuse-injective e))
+instant-over (some z) n e = ok-not-refuse (sym e)
 
-module _ (z : ℤ) (s t : Bool) (d e : ℕ) where
-  pub never-shown : s ≡ false → are (pos 0) false (pos 0) ≡ times_answer z (delayed s d) (delayed t e)
+-- a time that there may be
+if-ok : (o : Option ℤ) (a : Option Micros) → instant_if o ≡ ok a → (time_stays o ≡ true) × (micros_in o ≡ a)
+if-ok none a e = (refl, ok-injective e)
+if-ok (some z) a e =
+    let p = map_res-ok some (instant (checked z)) e in
+    let g = sum_is z p.0.0 (instant-is _ p.0 p.1) in
+    (g.0, rw (← g.1) p.2)
+
+if-refuse : (o : Option ℤ) (n : ℕ) → instant_if o ≡ refuse n → (time_stays o ≡ false) × (n ≡ long_instant)
+if-refuse none n e = ok-not-refuse (sym e)
+if-refuse (some z) n e =
+    let g = instant-over (checked z) n (map_res-refuse some (instant (checked z)) e) in
+    (sum_over z g.0, g.1)
+
+-- ---- The answer, by the two times
+
+-- without a start there is no delay after which it is hidden
+hidden-after : (z : ℤ) (starts stops : Option Ticks) → show_time z (delay_in (option_and starts stops)) ≡ hide_time z (delay_in starts) (delay_in stops)
+hidden-after z none stops = refl
+hidden-after z (some t) stops = refl
+
+module _ (z : ℤ) (starts stops : Option Ticks) where
+  pub show_leaves : (n : ℕ) → instant_if (show_time z (delay_in starts)) ≡ refuse n
+      → refuse n ≡ times_answer z (delay_in starts) (delay_in stops)
   unfolding times_answer times_stay
-  never-shown h = rw h
+  show_leaves n o = let g = if-refuse _ n o in rw (g.0, g.1)
 
-  module _ (h : s ≡ true) where
-    pub show_leaves : checked (z +ℤ pos (in_micros d)) ≡ Over
-        → TimesAnswer.Refused long_instant ≡ times_answer z (delayed s d) (delayed t e)
+  module _ (a : Option Micros) (e : instant_if (show_time z (delay_in starts)) ≡ ok a) where
+    pub hide_leaves : (n : ℕ) → instant_if (show_time z (delay_in (option_and starts stops))) ≡ refuse n
+        → refuse n ≡ times_answer z (delay_in starts) (delay_in stops)
     unfolding times_answer times_stay
-    show_leaves o = rw (h, sum_over (z +ℤ pos (in_micros d)) o)
+    hide_leaves n o = let f = if-ok _ a e in let g = if-refuse _ n (ap instant_if (sym (hidden-after z starts stops)) ∙ o) in rw (f.0, g.0, g.1)
 
-    module _ (y : ℤ) (a : checked (z +ℤ pos (in_micros d)) ≡ Is y) where
-      pub not_hidden : t ≡ false → are (to_z w64 (of_z w64 y)) false (pos 0) ≡ times_answer z (delayed s d) (delayed t e)
-      unfolding times_answer times_stay
-      not_hidden k =
-          let g = sum_is (z +ℤ pos (in_micros d)) y a in
-          rw (h, k, g.0) (ap (λ (x : ℤ). are x false (pos 0)) g.1)
-
-      module _ (k : t ≡ true) where
-        pub hide_leaves : checked (z +ℤ pos (in_micros e)) ≡ Over
-            → TimesAnswer.Refused long_instant ≡ times_answer z (delayed s d) (delayed t e)
-        unfolding times_answer times_stay
-        hide_leaves o = rw (h, k, (sum_is (z +ℤ pos (in_micros d)) y a).0, sum_over (z +ℤ pos (in_micros e)) o)
-
-        pub shown-hidden : (x : ℤ) → checked (z +ℤ pos (in_micros e)) ≡ Is x
-            → are (to_z w64 (of_z w64 y)) true (to_z w64 (of_z w64 x)) ≡ times_answer z (delayed s d) (delayed t e)
-        unfolding times_answer times_stay
-        shown-hidden x b =
-            let g = sum_is (z +ℤ pos (in_micros d)) y a in
-            let f = sum_is (z +ℤ pos (in_micros e)) x b in
-            rw (h, k, g.0, f.0) (λ i. are (g.1 i) true (f.1 i))
+    pub shown-hidden : (b : Option Micros) → instant_if (show_time z (delay_in (option_and starts stops))) ≡ ok b
+        → ok (record { show = a; hide = b }) ≡ times_answer z (delay_in starts) (delay_in stops)
+    unfolding times_answer times_stay
+    shown-hidden b o = let f = if-ok _ a e in let g = if-ok _ b (ap instant_if (sym (hidden-after z starts stops)) ∙ o) in rw (f.0, g.0, ← f.1, ← g.1)
 
 -- ---- What an answer says of the times
 
@@ -128,23 +133,23 @@ module _ (z : ℤ) (starts stops : Option ℕ) where
   abbrev times : Times
   times = times_of (show_time z starts) (hide_time z starts stops)
 
-  pub times_are : (t : Times) → times_answer z starts stops ≡ TimesAnswer.Are t → (times_stay z starts stops ≡ true) × (t ≡ times)
+  pub times_are : (t : Times) → times_answer z starts stops ≡ ok t → (times_stay z starts stops ≡ true) × (t ≡ times)
   unfolding times_answer
   times_are t e = go (times_stay z starts stops) refl e
     where
       go : (s : Bool) → times_stay z starts stops ≡ s
-          → cond s (TimesAnswer.Are times) (TimesAnswer.Refused long_instant) ≡ TimesAnswer.Are t
+          → cond s (ok times) (refuse long_instant) ≡ ok t
           → (times_stay z starts stops ≡ true) × (t ≡ times)
       go true q f = (q, cc f)
       go false q f = let n : ◌≡◌ {A = ℕ} 0 1 = cc f in absurd (omega arith)
 
-  pub times-leave : (n : ℕ) → times_answer z starts stops ≡ TimesAnswer.Refused n
+  pub times-leave : (n : ℕ) → times_answer z starts stops ≡ refuse n
       → (times_stay z starts stops ≡ false) × (n ≡ long_instant)
   unfolding times_answer
   times-leave n e = go (times_stay z starts stops) refl e
     where
       go : (s : Bool) → times_stay z starts stops ≡ s
-          → cond s (TimesAnswer.Are times) (TimesAnswer.Refused long_instant) ≡ TimesAnswer.Refused n
+          → cond s (ok times) (refuse long_instant) ≡ refuse n
           → (times_stay z starts stops ≡ false) × (n ≡ long_instant)
       go true q f = let n : ◌≡◌ {A = ℕ} 0 1 = cc f in absurd (omega arith)
       go false q f = (q, cc f)

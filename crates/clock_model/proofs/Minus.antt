@@ -10,7 +10,6 @@ use mir.Syntax.{w64}
 use mir.Val.{Fits, SFits, to_z, of_z}
 use mir.Facts.{to_z-of_z, Fits-nat_abs}
 use borrow.Author.Tests.{ltb-true}
-use Rattle.clock_model.specs.Answers.{micros_count}
 
 -- -1 less z, for a z below 0
 record Up (z : ℤ) : Type 0 where
@@ -46,15 +45,3 @@ module _ (z y : ℤ) (f : SFits w64 z) (e : y ≡ z) where
       up : (x : ℤ) → pos 0 ≤ℤ x → T (non_neg x)
       up (pos n) l = tt
       up (negsuc n) l = absurd l.le
-
--- as a count of microseconds
-pub count_below : (z : ℤ) → z <ℤ pos 0 → 0 ≡ micros_count z
-count_below (pos n) h = absurd (omega (arith, ltb→lt n 0 h.lt))
-count_below (negsuc n) h = refl
-
-pub count_is : (z y : ℤ) → y ≡ z → pos 0 ≤ℤ z → nat_abs y ≡ micros_count z
-count_is z y e h = ap nat_abs e ∙ go z h
-  where
-    go : (x : ℤ) → pos 0 ≤ℤ x → nat_abs x ≡ micros_count x
-    go (pos n) l = refl
-    go (negsuc n) l = absurd l.le

@@ -1,6 +1,6 @@
 -- Whether the times of a cue stay in signed 64 bits (FORMAT 6.7). Assumes nothing: these are definitions.
 use Rattle.std.specs.Prelude.{ℕ, Bool, true, ◌&&◌, ℤ}
-use Rattle.std.proofs.Math.Option.{Option, some, none}
+use Rattle.std.specs.Prelude.{Option, Some as some, None as none}
 use Rattle.outcome.specs.Outcome.{Res, ok, check, and_then, long_instant}
 use Rattle.grammar.specs.Record.{Told, told}
 use Rattle.grammar.specs.Times.{show_time, hide_time}

@@ -1,8 +1,7 @@
 -- A number of signed 64 bits, or that it leaves them (FORMAT 1.7, 6.7). Assumes nothing: these are definitions.
 use Rattle.std.specs.Prelude.{Bool, true, false, ◌^◌, ltb, ℤ}
 use Rattle.std.specs.Int.Signed.{mag}
-use Rattle.clock_model.specs.declared.Num.{Num}
-use Rattle.clock_model.specs.declared.Num.TheVariants.{Over, Is}
+use Rattle.std.specs.Prelude.{Option, Some as some, None as none}
 
 abbrev pub pick {ℓ} : {A : Type ℓ} → Bool → A → A → A
 pick true a b = a
@@ -13,5 +12,5 @@ abbrev pub stays : ℤ → Bool
 stays z = ltb (mag z) (2 ^ 63)
 
 -- a number where it does
-unfoldable pub checked : ℤ → Num
-checked z = pick (stays z) (Is z) Over
+unfoldable pub checked : ℤ → Option ℤ
+checked z = pick (stays z) (some z) none

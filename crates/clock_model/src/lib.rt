@@ -2,33 +2,16 @@
 #![tactic(auto)]
 
 // A delay of a unit, in ticks of 1024/90000 of a second.
-#[derive(Clone, Copy)]
+#[derive(Clone, Copy, Debug, PartialEq, Eq)]
 pub struct Ticks(pub u16);
 
 // A time or a duration, in microseconds.
-#[derive(Clone, Copy)]
+#[derive(Clone, Copy, Debug, PartialEq, Eq)]
 pub struct Micros(pub i64);
 
-// A number of signed 64 bits, or one that is none.
-#[derive(Clone, Copy)]
-pub enum Num {
-    Over,
-    Is(i64),
-}
-
-// When a cue's picture is shown and hidden; a time that there is not is 0.
-#[derive(Clone, Copy)]
+// When a cue's picture is shown and hidden, where it is.
+#[derive(Clone, Copy, Debug, PartialEq, Eq)]
 pub struct Times {
-    pub show: Micros,
-    // Whether it is hidden.
-    pub hides: bool,
-    pub hide: Micros,
-}
-
-// What a cue's start and the delays of its unit give.
-#[derive(Clone, Copy)]
-pub enum TimesAnswer {
-    Are(Times),
-    // The number of the refusal.
-    Refused(u8),
+    pub show: Option<Micros>,
+    pub hide: Option<Micros>,
 }

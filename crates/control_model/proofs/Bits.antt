@@ -4,7 +4,7 @@ use native.Mathlib.Omega.{arith}
 use mathlib.Core.Path.{◌≡◌}
 use mathlib.Core.List.{List}
 use borrow.Author.Tests.{eq-eqb, ne_eqb}
-use Rattle.grammar.specs.Bytes.{byte, nibble, nibbles}
+use Rattle.grammar.specs.Bytes.{byte, word, nibble, nibbles}
 
 module _ (u : List ℕ) (q : ℕ) where
   nibble-high : (p : ℕ) → p ≡ 2 * q → byte u q < 256 → nibble u p ≡ byte u q / 16
@@ -20,10 +20,10 @@ module _ (u : List ℕ) (q : ℕ) where
       let d : p / 2 ≡ q = omega arith in
       rw (d, ne_eqb (p % 2) 0 (λ m. omega arith))
 
-pub twelve-from : (u : List ℕ) (q : ℕ) → byte u q < 256 → byte u (q + 1) < 256 → byte u q * 16 + byte u (q + 1) / 16 ≡ nibbles u (2 * q) 3
-unfolding nibbles
+pub twelve-from : (u : List ℕ) (q : ℕ) → byte u q < 256 → byte u (q + 1) < 256 → word u q / 16 ≡ nibbles u (2 * q) 3
+unfolding nibbles word
 twelve-from u q h k = omega (arith, nibble-high u q (2 * q + 0) (omega arith) h, nibble-low u q (2 * q + 1) (omega arith), nibble-high u (q + 1) (2 * q + 2) (omega arith) k)
 
-pub twelve_to : (u : List ℕ) (q : ℕ) → byte u (q + 1) < 256 → byte u q % 16 * 256 + byte u (q + 1) ≡ nibbles u (2 * q + 1) 3
-unfolding nibbles
+pub twelve_to : (u : List ℕ) (q : ℕ) → byte u (q + 1) < 256 → word u q % 4096 ≡ nibbles u (2 * q + 1) 3
+unfolding nibbles word
 twelve_to u q k = omega (arith, nibble-low u q (2 * q + 1 + 0) (omega arith), nibble-high u (q + 1) (2 * q + 1 + 1) (omega arith) k, nibble-low u (q + 1) (2 * q + 1 + 2) (omega arith))

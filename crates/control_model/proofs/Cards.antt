@@ -1,8 +1,7 @@
 -- Closed inputs on which each edit of this crate's definitions gives another value. Assumes nothing.
 use mathlib.Core.Path.{◌≡◌, refl}
-use mathlib.Core.Option.{some}
+use Rattle.std.specs.Prelude.{Some as some}
 use mathlib.Core.List.{[], ◌∷◌}
-use lib.ListN.{replicate}
 use Rattle.grammar.specs.Bytes.{word, nibble, nibbles}
 use Rattle.grammar.specs.Control.{start, area, offsets}
 use Rattle.outcome.specs.Outcome.{refuse, many_bands}
@@ -25,6 +24,6 @@ pub first_start_lem : (tell 9 start (tell 7 start untold)).starts ≡ some 7
 unfolding untold
 first_start_lem = refl
 
--- beside a refusal the array of a unit's bands is 0
-pub no_words_beside : bands_given (refuse many_bands) ≡ record { refused = 34; words = replicate 1536 0 }
+-- beside a refusal there are no words of a unit's bands
+pub no_words_beside : bands_given (refuse many_bands) ≡ refuse 34
 no_words_beside = refl

@@ -10,9 +10,8 @@ use lib.Seq.{sets}
 use lib.Dec.{leb}
 use mir.Syntax.{w8}
 use mir.Val.{Fits}
-use Rattle.outcome.specs.Outcome.{Res, ok, refuse, IsOk, listed, Numbered, no_area, many_bands}
-use Rattle.outcome.proofs.Laws.{ok-injective, and_then-ok, check-ok}
-use Rattle.outcome.proofs.Numbers.{not-0}
+use Rattle.outcome.specs.Outcome.{Res, ok, refuse, IsOk, listed, no_area, many_bands}
+use Rattle.outcome.proofs.Laws.{ok-injective, ok-not-refuse, refuse-injective, and_then-ok, check-ok}
 use Rattle.grammar.specs.Bytes.{byte}
 use Rattle.grammar.specs.Bands.{Band, IsBand, band_words, most_bands, most_words}
 use Rattle.grammar.specs.Control.{Block, IsChain}
@@ -25,9 +24,7 @@ use Rattle.bands_model.proofs.Count.{bands_held_lem, padded-front}
 use Rattle.control_model.specs.Chain.{chain_at, has_area, control_at}
 use Rattle.control_model.specs.Fill.{unit_words}
 use Rattle.control_model.specs.Few.{few_at, bands_given}
-use Rattle.control_model.specs.declared.UnitBands.{UnitBands}
 use Rattle.control_model.proofs.Grammar.{chain_iff}
-use Rattle.control_model.proofs.Refusals.{few_numbered}
 
 -- ---- Every band that is told has as many entries as its header says
 
@@ -85,15 +82,11 @@ module _ (u : List ℕ) (bytes : (i : ℕ) → Fits w8 (byte u i)) (is_ok : IsOk
   words_are : unit_words u ≡ band_words (told blocks).bands
   words_are = ap (λ (r : Res (List Block)). band_words (told (listed r)).bands) is
 
-  many : most_bands < length (told blocks).bands → (r : UnitBands) → r.refused ≡ many_bands → r.words ≡ padded []
-      → r ≡ bands_given (few_at u)
-  many h r e f =
-      let p : r ≡ bands_given (refuse many_bands) = λ i. record { refused = e i; words = f i } in
-      p ∙ ap bands_given (sym (few_refused u blocks is h))
+  many : most_bands < length (told blocks).bands → refuse many_bands ≡ bands_given (few_at u)
+  many h = ap bands_given (sym (few_refused u blocks is h))
 
   -- more words than 32 bands can take
-  pub few_over : most_words < n → (r : UnitBands) → r.refused ≡ many_bands → r.words ≡ padded []
-      → r ≡ bands_given (few_at u)
+  pub few_over : most_words < n → refuse many_bands ≡ bands_given (few_at u)
   few_over h =
       let w = unit_words_lem u (λ i. (bytes i).fits) blocks (control_chain u blocks is) in
       let l : length (unit_words u) ≡ length (band_words (told blocks).bands) = ap length words_are in
@@ -105,15 +98,14 @@ module _ (u : List ℕ) (bytes : (i : ℕ) → Fits w8 (byte u i)) (is_ok : IsOk
         count ∙ ap (λ (x : List ℕ). bands_held (take n x)) filled ∙ ap bands_held (padded-front (unit_words u) n long few ∙ words_are)
         ∙ bands_held_lem (told blocks).bands (told-counted u blocks (control_chain u blocks is))
 
-    pub few_many : most_bands < k → (r : UnitBands) → r.refused ≡ many_bands → r.words ≡ padded []
-        → r ≡ bands_given (few_at u)
+    pub few_many : most_bands < k → refuse many_bands ≡ bands_given (few_at u)
     few_many l = let c = counted in many (omega arith)
 
-    pub few-kept : k ≤ most_bands → record { refused = 0; words = ws } ≡ bands_given (few_at u)
+    pub few-kept : k ≤ most_bands → ok ws ≡ bands_given (few_at u)
     few-kept l =
         let c = counted in
         let g : ws ≡ padded (band_words (told blocks).bands) = filled ∙ ap padded words_are in
-        let p : record { refused = 0; words = ws } ≡ bands_given (ok blocks) = λ i. record { refused = 0; words = g i } in
+        let p : ok ws ≡ bands_given (ok blocks) = ap ok g in
         p ∙ ap bands_given (sym ((few_iff u blocks).1 (is, omega arith)))
 
 -- no words are stored as none
@@ -123,25 +115,25 @@ no_words ws (v ∷ vs) n e h = absurd (omega arith)
 
 -- ---- What the array of a unit says
 
-module _ (u : List ℕ) (b : UnitBands) (e : b ≡ bands_given (few_at u)) where
-  pub given-refused : (b.refused ≡ 0 → ⊥) → few_at u ≡ refuse b.refused
-  given-refused h = go (few_at u) refl e
+module _ (u : List ℕ) (b : Res (List ℕ)) (e : b ≡ bands_given (few_at u)) where
+  pub given-refused : (k : ℕ) → b ≡ refuse k → few_at u ≡ refuse k
+  given-refused k d = go (few_at u) refl (sym d ∙ e)
     where
-      go : (r : Res (List Block)) → few_at u ≡ r → b ≡ bands_given r → few_at u ≡ refuse b.refused
-      go (ok bs) q f = absurd (h (ap (λ (x : UnitBands). x.refused) f))
-      go (refuse n) q f = q ∙ ap refuse (sym (ap (λ (x : UnitBands). x.refused) f))
+      go : (r : Res (List Block)) → few_at u ≡ r → refuse k ≡ bands_given r → few_at u ≡ refuse k
+      go (ok bs) q f = absurd (ok-not-refuse f)
+      go (refuse n) q f = q ∙ ap refuse (sym (refuse-injective f))
 
-  module _ (bs : List Block) (is : control_at u ≡ ok bs) (none : b.refused ≡ 0) where
+  module _ (bs : List Block) (is : control_at u ≡ ok bs) (ws : List ℕ) (d : b ≡ ok ws) where
     -- the unit has few bands, and these are their words
-    pub given-few : (few_at u ≡ ok bs) × (b.words ≡ padded (band_words (told bs).bands))
-    given-few = go (few_at u) refl (few_numbered u) e
+    pub given-few : (few_at u ≡ ok bs) × (ws ≡ padded (band_words (told bs).bands))
+    given-few = go (few_at u) refl (sym d ∙ e)
       where
-        go : (r : Res (List Block)) → few_at u ≡ r → Numbered r → b ≡ bands_given r
-            → (few_at u ≡ ok bs) × (b.words ≡ padded (band_words (told bs).bands))
-        go (ok cs) q n f =
+        go : (r : Res (List Block)) → few_at u ≡ r → ok ws ≡ bands_given r
+            → (few_at u ≡ ok bs) × (ws ≡ padded (band_words (told bs).bands))
+        go (ok cs) q f =
             let s : cs ≡ bs = ok-injective (sym ((few_iff u cs).0 q).0 ∙ is) in
-            (q ∙ ap ok s, ap (λ (x : UnitBands). x.words) f ∙ ap (λ (x : List Block). padded (band_words (told x).bands)) s)
-        go (refuse n) q t f = absurd (not-0 n t (sym (ap (λ (x : UnitBands). x.refused) f) ∙ none))
+            (q ∙ ap ok s, ok-injective f ∙ ap (λ (x : List Block). padded (band_words (told x).bands)) s)
+        go (refuse n) q f = absurd (ok-not-refuse (sym f))
 
     -- which fit
     pub given-words : ((i : ℕ) → Fits w8 (byte u i)) → length (band_words (told bs).bands) ≤ most_words

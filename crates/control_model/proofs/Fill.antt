@@ -4,7 +4,7 @@ use native.Mathlib.Omega.{arith}
 use mathlib.Core.Path.{◌≡◌, refl, sym, ap, ◌∙◌, subst}
 use mathlib.Core.Bool.{Bool, true, false, cond}
 use mathlib.Core.Logic.{◌⊎◌, inl, inr}
-use mathlib.Core.Option.{some, none}
+use Rattle.std.specs.Prelude.{Some as some, None as none}
 use mathlib.Core.List.{List, [], ◌∷◌, ◌++◌, append_assoc, append-nil}
 use lib.ListN.{length, length-append}
 use lib.Dec.{leb, eqb}
@@ -19,7 +19,6 @@ use Rattle.grammar.specs.Record.{Told, told}
 use Rattle.control_model.specs.Fold.{untold, tell, tell_block, tell_chain}
 use Rattle.bands_model.specs.Bands.{bands_of}
 use Rattle.bands_model.specs.Answers.{count_of, ListRead}
-use Rattle.bands_model.specs.declared.BandAnswer.{BandAnswer}
 use Rattle.bands_model.proofs.Loops.{words-join}
 use Rattle.control_model.specs.Listed.{bands_at}
 use Rattle.control_model.specs.Chain.{plain_at, change_at, order_at, command, command_at, commands_at, block, block_at, chain_next, blocks_at, chain_at, has_area, control_at}
@@ -59,16 +58,16 @@ module _ (u : List ℕ) (L p : ℕ) (o : Order) (c : Change u L p o) (s : List �
   pub change_known : IsOk (bands_of s) × (to + length (listed (bands_of s)) ≤ length ws)
   change_known = rw reads_all (tt, room)
 
-  pub change_count : (n : ℕ) (r : BandAnswer) (ws' : List ℕ) → ListRead s to ws r ws' → r ≡ BandAnswer.Words n → n ≡ length (order_words o)
-  change_count n r ws' q e = let z : BandAnswer.Words n ≡ BandAnswer.Words (0 + length (order_words o)) = sym e ∙ q.answer ∙ ap (count_of 0) reads_all in let y : n ≡ 0 + length (order_words o) = cc in omega arith
+  pub change_count : (n : ℕ) (r : Res ℕ) (ws' : List ℕ) → ListRead s to ws r ws' → r ≡ ok n → n ≡ length (order_words o)
+  change_count n r ws' q e = let z : ok n ≡ ok (0 + length (order_words o)) = sym e ∙ q.answer ∙ ap (count_of 0) reads_all in let y : n ≡ 0 + length (order_words o) = cc in omega arith
 
-  pub change_filled : (z n : ℕ) (r : BandAnswer) (ws' : List ℕ) → z ≡ word u p → ListRead s to ws r ws' → r ≡ BandAnswer.Words n
+  pub change_filled : (z n : ℕ) (r : Res ℕ) (ws' : List ℕ) → z ≡ word u p → ListRead s to ws r ws' → r ≡ ok n
       → OrderFilled o p to ws (record { at = p + z; to = to + n }) ws'
   change_filled z n r ws' y q e =
       record { next = ap (λ (k : ℕ). p + k) (y ∙ sym c.size); place = ap (λ (k : ℕ). to + k) (change_count n r ws' q e); words = q.words change_known.0 ∙ ap (λ (g : Res (List ℕ)). sets ws to (listed g)) reads_all }
 
-  pub change-kept : (k : ℕ) (r : BandAnswer) (ws' : List ℕ) → ListRead s to ws r ws' → r ≡ BandAnswer.Refused k → ⊥
-  change-kept k r ws' q e = let z : BandAnswer.Refused k ≡ BandAnswer.Words (0 + length (order_words o)) = sym e ∙ q.answer ∙ ap (count_of 0) reads_all in let y : ◌≡◌ {A = ℕ} 0 1 = cc in omega arith
+  pub change-kept : (k : ℕ) (r : Res ℕ) (ws' : List ℕ) → ListRead s to ws r ws' → r ≡ refuse k → ⊥
+  change-kept k r ws' q e = let z : refuse k ≡ ok (0 + length (order_words o)) = sym e ∙ q.answer ∙ ap (count_of 0) reads_all in let y : ◌≡◌ {A = ℕ} 0 1 = cc in omega arith
 
 -- ---- Any command
 

@@ -9,3 +9,4 @@ pub mod Fill
 pub mod Few
 pub mod Cards
 pub mod Clock
+pub mod CommandBytes

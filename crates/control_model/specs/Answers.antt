@@ -8,8 +8,7 @@ use Rattle.clock_model.specs.Answers.{ticks}
 use Rattle.control_model.specs.Fold.{untold, tell, tell_block, tell_chain}
 use Rattle.control_model.specs.Chain.{control_at}
 use Rattle.control_model.specs.declared.Spu.{Spu}
-use Rattle.control_model.specs.declared.CommandAnswer.{CommandAnswer}
-use Rattle.control_model.specs.declared.ControlAnswer.{ControlAnswer}
+use Rattle.control_model.specs.declared.AfterCommand.{AfterCommand}
 use Rattle.rle_model.specs.declared.Counts.{Counts}
 use Rattle.rle_model.specs.Answers.{nothing}
 
@@ -36,21 +35,24 @@ spu_of t n =
       clipped = n.clipped;
     }
 
+abbrev pub after_command : ℕ → Spu → Res AfterCommand
+after_command a s = ok (record { at = a; spu = s })
+
 -- of an order whose parameters start at p, in a block of delay d, after t was told
-abbrev pub order_answer : ℕ → ℕ → Told → Res Order → CommandAnswer
-order_answer d p t (ok o) = CommandAnswer.Next (p + size_of o) (spu_of (tell d o t) nothing)
-order_answer d p t (refuse n) = CommandAnswer.Refused n
+abbrev pub order_answer : ℕ → ℕ → Told → Res Order → Res AfterCommand
+order_answer d p t (ok o) = after_command (p + size_of o) (spu_of (tell d o t) nothing)
+order_answer d p t (refuse n) = refuse n
 
 -- of the commands of a block
-abbrev pub commands_answer : ℕ → Told → Res (List Command) → ControlAnswer
-commands_answer d t (ok cs) = ControlAnswer.Tells (spu_of (tell_block d cs t) nothing)
-commands_answer d t (refuse n) = ControlAnswer.Refused n
+abbrev pub commands_answer : ℕ → Told → Res (List Command) → Res Spu
+commands_answer d t (ok cs) = ok (spu_of (tell_block d cs t) nothing)
+commands_answer d t (refuse n) = refuse n
 
 -- of the blocks of a chain
-abbrev pub chain_answer : Told → Res (List Block) → ControlAnswer
-chain_answer t (ok bs) = ControlAnswer.Tells (spu_of (tell_chain bs t) nothing)
-chain_answer t (refuse n) = ControlAnswer.Refused n
+abbrev pub chain_answer : Told → Res (List Block) → Res Spu
+chain_answer t (ok bs) = ok (spu_of (tell_chain bs t) nothing)
+chain_answer t (refuse n) = refuse n
 
 -- of a unit
-abbrev pub control_answer : List ℕ → ControlAnswer
+abbrev pub control_answer : List ℕ → Res Spu
 control_answer u = chain_answer untold (control_at u)

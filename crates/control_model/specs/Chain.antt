@@ -1,7 +1,7 @@
 -- The blocks of a unit and their commands, found: the first fault in the chain's order refuses (FORMAT 3.1 to 3.5, 3.7).
 -- Assumes nothing: these are definitions.
 use Rattle.std.specs.Prelude.{ℕ, suc, ◌+◌, ◌-◌, ◌*◌, Bool, true, cond, ◌&&◌, ◌||◌, List, [], ◌∷◌, eqb, leb, ltb, length, get_or}
-use Rattle.std.proofs.Math.Option.{Option, some, none}
+use Rattle.std.specs.Prelude.{Option, Some as some, None as none}
 use Rattle.outcome.specs.Outcome.{Res, ok, refuse, check, and_then, map_res, no_head, bad_head, cut_parameters, small_size, unknown_command, no_area}
 use Rattle.outcome.specs.Lists.{list_from}
 use Rattle.grammar.specs.Bytes.{byte, word, nibbles}

@@ -1,7 +1,7 @@
 -- What commands tell, one after the other, as the reader takes them; `proofs/Fold.antt` shows that it is what they tell together (FORMAT 3.6).
 -- Assumes nothing: these are definitions.
 use Rattle.std.specs.Prelude.{ℕ, true, false, List, [], ◌∷◌, ◌++◌}
-use Rattle.std.proofs.Math.Option.{Option, some, none}
+use Rattle.std.specs.Prelude.{Option, Some as some, None as none}
 use Rattle.grammar.specs.Control.{Order, forced_start, start, stop, selectors, alphas, area, offsets, colours, Command, Block}
 use Rattle.grammar.specs.Record.{Told}
 

@@ -2,7 +2,10 @@
 // all bands of a unit.
 #![tactic(auto)]
 
+ghost use Rattle.std.specs.Prelude.{◌≤◌, length};
+
 use clock_model::Ticks;
+use outcome::Refusal;
 
 // What the commands of a unit tell and what its rows count: the record of a unit, by the names of the original, but for
 // the words of its bands, which do not go from command to command.
@@ -39,34 +42,62 @@ pub struct Spu {
     pub saw_chg_colcon: bool,
 }
 
-// What a command tells.
+// The bytes of a unit, and where its control blocks end.
 #[derive(Clone, Copy)]
-pub enum CommandAnswer {
-    // The place after it, and the record with what it tells.
-    Next { at: usize, spu: Spu },
-    // The number of the refusal.
-    Refused(u8),
+pub struct Blocks<'a> {
+    pub unit: &'a [u8],
+    pub end: usize,
+    pub ghost inside: { end ≤ length unit.now },
 }
 
-// The bands of a unit, kept in an array.
-#[derive(Clone, Copy)]
-pub struct UnitBands {
-    // The number of the refusal; 0 where there is none.
-    pub refused: u8,
-    // Their words, and 0 after them; 0 in all of it beside a refusal.
-    pub words: [u16; 1536],
+// What a command tells, in the order of the commands' bytes.
+#[derive(Clone, Copy, Debug, PartialEq, Eq)]
+pub enum CommandKind {
+    ForcedStart,
+    Start,
+    Stop,
+    Selectors,
+    Alphas,
+    Area,
+    Offsets,
+    Colours,
 }
 
-// What control blocks tell.
+// The command that a byte stands for.
+// Ruled out: another command's; a command for a byte that stands for none.
+impl TryFrom<u8> for CommandKind {
+    ghost use Rattle.std.specs.Prelude.{◌≡◌, ◌<◌, IfOk, IfErr};
+    ghost use Rattle.outcome.specs.declared.Refusal.TheVariants.{UnknownCommand};
+    ghost use Rattle.control_model.specs.CommandBytes.{byte_of};
+
+    type Error = Refusal;
+
+    ghost try_from_gives = { λ code r. IfOk r (λ k. byte_of k ≡ code) × IfErr r (λ e. (e ≡ UnknownCommand) × (7 < code)) };
+
+    fn try_from(code: u8) -> Result<CommandKind, Refusal> {
+        match code {
+            0 => Ok(CommandKind::ForcedStart),
+            1 => Ok(CommandKind::Start),
+            2 => Ok(CommandKind::Stop),
+            3 => Ok(CommandKind::Selectors),
+            4 => Ok(CommandKind::Alphas),
+            5 => Ok(CommandKind::Area),
+            6 => Ok(CommandKind::Offsets),
+            7 => Ok(CommandKind::Colours),
+            _ => Err(Refusal::UnknownCommand),
+        }
+    }
+}
+
+// Where the command after one starts, and the record with what that one tells.
 #[derive(Clone, Copy)]
-pub enum ControlAnswer {
-    Tells(Spu),
-    // The number of the refusal.
-    Refused(u8),
+pub struct AfterCommand {
+    pub at: usize,
+    pub spu: Spu,
 }
 
 // Where reading commands and storing words stand.
-#[derive(Clone, Copy)]
+#[derive(Clone, Copy, Debug, PartialEq, Eq)]
 pub struct Place {
     pub at: usize,
     pub to: usize,

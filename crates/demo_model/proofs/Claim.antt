@@ -1,5 +1,5 @@
 -- The layer keeps its claim: what is written reads back. Assumes nothing.
-use Prim.Native.Nat.{ℕ, ◌+◌, ◌-◌, ◌*◌, ◌/◌, ◌≤◌}
+use Prim.Native.Nat.{ℕ, ◌+◌, ◌*◌, ◌/◌, ◌≤◌}
 use native.Mathlib.Omega.{arith}
 use mathlib.Core.Path.{◌≡◌, refl, sym, ap, ◌∙◌, subst}
 use mathlib.Core.Bool.{◌&&◌}
@@ -15,7 +15,6 @@ use Rattle.grammar.specs.Pixels.{index_map, codes_in, clipped_in}
 use Rattle.grammar.specs.Record.{Told, told, width, height}
 use Rattle.grammar.specs.Picture.{ListedUnit, IsUnit}
 use Rattle.control_model.specs.Answers.{spu_of}
-use Rattle.control_model.specs.declared.Spu.{Spu}
 use Rattle.spu_model.specs.Unit.{unit_in, counts_of}
 use Rattle.spu_model.specs.Answers.{record_of, record_given, unit_map, Decoded}
 use Rattle.spu_model.specs.declared.Record.{Record}
@@ -24,7 +23,6 @@ use Rattle.spu_model.proofs.Claim.{in-complete}
 use Rattle.demo_model.specs.Codes.{last_marks, marks_in, picture_rows}
 use Rattle.demo_model.specs.Unit.{top_nibbles, unit_of, is_side, all_colours, picture_ok, sized_unit, demo_at}
 use Rattle.demo_model.specs.Answers.{Sound, demo_given, Written}
-use Rattle.demo_model.specs.declared.DemoAnswer.{DemoAnswer}
 use Rattle.demo_model.specs.Claim.{written_told, Listed, ReadsBack, RoundTrip, RoundTrips}
 use Rattle.demo_model.proofs.Marks.{fill_closes}
 use Rattle.demo_model.proofs.Unit.{Back, back}
@@ -81,7 +79,7 @@ module _ (w h : ℕ) (px : List ℕ) (n : ℕ) (u : List ℕ) (e : demo_at w h p
   codes-written l i = ap (λ (k : ListedUnit). codes_in k.rows) (unit-unique u l read.list i lists.listed) ∙ read.codes
 
   -- and reading gives it back
-  reads : (map : List ℕ) → w * h ≤ length map → (r : Record) (map' : List ℕ) → Decoded u map r map' → ReadsBack w h px read.list map r map'
+  reads : (map : List ℕ) → w * h ≤ length map → (r : Res Record) (map' : List ℕ) → Decoded u map r map' → (v : Record) × (r ≡ ok v) × ReadsBack w h px read.list map v map'
   unfolding record_words band_words spu_of
   reads map l r map' d =
       let b = read in
@@ -90,40 +88,38 @@ module _ (w h : ℕ) (px : List ℕ) (n : ℕ) (u : List ℕ) (e : demo_at w h p
       let room : width (told b.list.blocks) * height (told b.list.blocks) ≤ length map = rw (wide_is, high_is) l in
       let f = (unit-iff (unit_of last_marks w h px) b.list).1 b.listed in
       let g : unit_in u (length map) ≡ ok b.list = subst (λ (v : List ℕ). unit_in v (length map) ≡ ok b.list) taken.unit (in-complete (unit_of last_marks w h px) (length map) b.list f room) in
-      let e : r ≡ record_of t n = d.answer ∙ ap record_given g ∙ ap (λ (q : Told). record_of q n) b.tells in
-      let s : r.spu ≡ spu_of t n = ap (λ (q : Record). q.spu) e in
       let a = taken.sound.wide in
-      let c = taken.sound.high in
-      let x2 : r.spu.x2 ≡ w - 1 = ap (λ (q : Spu). q.x2) s in
-      let y2 : r.spu.y2 ≡ h - 1 = ap (λ (q : Spu). q.y2) s in
-      record {
-        accepted = ap (λ (q : Record). q.refused) e;
-        x1 = ap (λ (q : Spu). q.x1) s;
-        y1 = ap (λ (q : Spu). q.y1) s;
-        wide = omega arith;
-        high = omega arith;
-        codes = ap (λ (q : Spu). q.codes) s;
-        clipped = ap (λ (q : Spu). q.clipped) s ∙ ap (λ (k : ℕ). clipped_in k b.list.rows) wide_is ∙ b.clipped;
-        others = s;
-        bands = ap (λ (q : Record). q.bands) e ∙ ap record_words (sym (ap (λ (q : Told). q.bands) b.tells));
-        no_band = ap (λ (q : Told). q.bands) b.tells;
-        pixels = d.pixels ∙ ap (λ (q : Res ListedUnit). sets map 0 (unit_map q)) g ∙ ap (sets map 0) lists.picture;
-      }
+      let c = taken.sound.high in (
+        record_of t n,
+        d.answer ∙ ap record_given g ∙ ap (λ (q : Told). ok (record_of q n)) b.tells,
+        record {
+          x1 = refl;
+          y1 = refl;
+          wide = omega arith;
+          high = omega arith;
+          codes = refl;
+          clipped = ap (λ (k : ℕ). clipped_in k b.list.rows) wide_is ∙ b.clipped;
+          others = refl;
+          bands = ap record_words (sym (ap (λ (q : Told). q.bands) b.tells));
+          no_band = ap (λ (q : Told). q.bands) b.tells;
+          pixels = d.pixels ∙ ap (λ (q : Res ListedUnit). sets map 0 (unit_map q)) g ∙ ap (sets map 0) lists.picture;
+        },
+      )
 
   round_trip : RoundTrip w h px u
   round_trip = record { list = read.list; lists = lists; reads = reads }
 
 -- what the contract of `build_demo_spu` says beside its equation
-pub claim : (w h : ℕ) (px out : List ℕ) (r : DemoAnswer) (out' : List ℕ) → Written w h px out r out' → RoundTrips w h px r out'
+pub claim : (w h : ℕ) (px out : List ℕ) (r : Res ℕ) (out' : List ℕ) → Written w h px out r out' → RoundTrips w h px r out'
 claim w h px out r out' d = go (demo_at w h px (length out)) refl d.answer d.output
   where
     go : (x : Res (List ℕ)) → demo_at w h px (length out) ≡ x → r ≡ demo_given x → out' ≡ sets out 0 (listed x) → RoundTrips w h px r out'
-    go (refuse n) q e g = subst (λ (a : DemoAnswer). RoundTrips w h px a out') (sym e) tt
+    go (refuse n) q e g = subst (λ (a : Res ℕ). RoundTrips w h px a out') (sym e) tt
     go (ok u) q e g =
         let l : 0 + length u ≤ length out = room w h px (length out) u q in
         let f : take (length u) out' ≡ u = ap (take (length u)) (g ∙ sets-eq u out 0 l) ∙ take_at u (drop (0 + length u) out) (length u) refl in
-        subst (λ (a : DemoAnswer). RoundTrips w h px a out') (sym e) (subst (RoundTrip w h px) (sym f) (round_trip w h px (length out) u q))
+        subst (λ (a : Res ℕ). RoundTrips w h px a out') (sym e) (subst (RoundTrip w h px) (sym f) (round_trip w h px (length out) u q))
 
 -- the equation with the claim, as the contract has both
-pub claimed : {w h : ℕ} {px out : List ℕ} {r : DemoAnswer} {out' : List ℕ} → Written w h px out r out' → Written w h px out r out' × RoundTrips w h px r out'
+pub claimed : {w h : ℕ} {px out : List ℕ} {r : Res ℕ} {out' : List ℕ} → Written w h px out r out' → Written w h px out r out' × RoundTrips w h px r out'
 claimed {w} {h} {px} {out} {r} {out'} d = (d, claim w h px out r out' d)

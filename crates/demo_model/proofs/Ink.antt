@@ -12,7 +12,8 @@ use lib.Dec.{eqb}
 use borrow.Author.Tests.{eq-eqb, ne_eqb, eqb-true, eqb-false}
 use Rattle.outcome.proofs.Laws.{either}
 use Rattle.grammar.specs.Bytes.{byte}
-use Rattle.demo_model.specs.Codes.{Run, run, grow, runs, lead, Mark, run_size, cut, run_marks, last_marks, marks_of, digits, nibbles_of, evened, packed, row_marks}
+use Rattle.std.specs.List.{prefix_len}
+use Rattle.demo_model.specs.Codes.{Run, run, grow, runs, lead, Mark, run_size, cut, run_marks, last_marks, marks_of, digits, nibbles_of, packed, row_marks}
 use Rattle.demo_model.specs.Unit.{Four}
 use Rattle.demo_model.specs.Answers.{half, Inked}
 use Rattle.demo_model.specs.declared.NibbleWriter.{NibbleWriter}
@@ -88,12 +89,6 @@ unfolding lead
 lead-le c [] = omega arith
 lead-le c (x ∷ s) = ⊎_elim (λ t. rw t (omega (arith, lead-le c s))) (λ t. rw t (omega arith)) (either (eqb x c))
 
--- counting them
-pub record Leading (s : List ℕ) (c n : ℕ) : Type 0 where
-  pub some : 1 ≤ n
-  pub upto : n ≤ length s
-  pub goes : lead c s ≡ n + lead c (drop n s)
-
 lead-yes : (c x : ℕ) (s : List ℕ) → x ≡ c → lead c (x ∷ s) ≡ suc (lead c s)
 unfolding lead
 lead-yes c x s e = rw (eq-eqb x c e)
@@ -107,29 +102,18 @@ drop-step [] n h = absurd (omega arith)
 drop-step (x ∷ s) zero h = refl
 drop-step (x ∷ s) (suc n) h = let z : suc n + 1 ≡ suc (n + 1) = omega arith in rw z (drop-step s n (omega arith))
 
-pub leading-starts : (s : List ℕ) → 0 < length s → Leading s (byte s 0) 1
-leading-starts [] h = absurd (omega arith)
-leading-starts (x ∷ s) h = record { some = omega arith; upto = omega arith; goes = lead-yes x x s refl ∙ omega arith }
+-- they are how many pass the test before one that does not
+pub lead-prefix : (c : ℕ) (s : List ℕ) → prefix_len (λ x. eqb x c) s ≡ lead c s
+unfolding lead
+lead-prefix c [] = refl
+lead-prefix c (x ∷ s) =
+    let z : 1 + prefix_len (λ y. eqb y c) s ≡ suc (lead c s) = omega (arith, lead-prefix c s) in
+    ap (λ (n : ℕ). cond (eqb x c) n 0) z
 
-module _ (s : List ℕ) (c n : ℕ) (i : Leading s c n) where
-  pub leading-more : n < length s → byte s n ≡ c → Leading s c (n + 1)
-  leading-more l e =
-      let g = i.goes in
-      let y : lead c (drop n s) ≡ suc (lead c (drop (n + 1) s)) = ap (lead c) (drop-step s n l) ∙ lead-yes c (byte s n) (drop (n + 1) s) e in
-      record { some = omega arith; upto = omega arith; goes = omega arith }
-
-  pub leading-other : n < length s → (byte s n ≡ c → ⊥) → n ≡ lead c s
-  leading-other l e =
-      let g = i.goes in
-      let y : lead c (drop n s) ≡ 0 = ap (lead c) (drop-step s n l) ∙ lead-no c (byte s n) (drop (n + 1) s) e in
-      omega arith
-
-  pub leading_end : length s ≤ n → n ≡ lead c s
-  leading_end l =
-      let g = i.goes in
-      let u = i.upto in
-      let m = lead-le c s in
-      omega arith
+-- and in a row that is not empty one at least
+pub lead-some : (s : List ℕ) → 0 < length s → 1 ≤ lead (byte s 0) s
+lead-some [] h = absurd (omega arith)
+lead-some (x ∷ s) h = omega (arith, lead-yes x x s refl)
 
 -- the runs of a row are its front run, and those of the rest
 runs-front : (x : ℕ) (s : List ℕ) → runs (x ∷ s) ≡ run (suc (lead x s)) x ∷ runs (drop (lead x s) s)
@@ -164,18 +148,6 @@ module _ (ns o : List ℕ) (w : NibbleWriter) (out : List ℕ) where
     where
       step : (k v : ℕ) → digits (suc k) v ≡ digits k (v / 16) ++ (v % 16 ∷ [])
       step k v = refl
-
-  pub evened-even : w.pos % 2 ≡ 0 → Inked ns o w out → Inked (evened ns) o w out
-  evened-even e h =
-      let c = h.count in
-      let t : eqb (length ns % 2) 0 ≡ true = eq-eqb (length ns % 2) 0 (omega arith) in
-      inked_as ns (evened ns) o w out (rw t (sym (append-nil ns))) h
-
-  pub evened-odd : (w.pos % 2 ≡ 0 → ⊥) → Inked ns o w out → (r : NibbleWriter) (out' : List ℕ) → Inked (ns ++ (0 ∷ [])) o r out' → Inked (evened ns) o r out'
-  evened-odd e h r out' k =
-      let c = h.count in
-      let t : eqb (length ns % 2) 0 ≡ false = ne_eqb (length ns % 2) 0 (λ z. e (omega arith)) in
-      inked_as (ns ++ (0 ∷ [])) (evened ns) o r out' (rw t) k
 
 -- ---- The codes of a row, run by run
 
@@ -242,12 +214,7 @@ four-byte (x ∷ px) (suc i) h = four-byte px i h.1
 pub record Rowing (row : List ℕ) (w₀ : NibbleWriter) (out₀ : List ℕ) (w : NibbleWriter) (out : List ℕ) (col : ℕ) : Type 0 where
   pub upto : col ≤ length row
   pub bound : w.pos + 4 * (length row - col) ≤ w₀.pos + 4 * length row
-  pub small : w.high < 16
-  pub size : length out ≡ length out₀
   pub goes : (ns o : List ℕ) → Inked ns o w₀ out₀ → (done : List ℕ) × Inked done o w out × (done ++ nibbles_of (row_marks last_marks (drop col row)) ≡ ns ++ nibbles_of (row_marks last_marks row))
-
-pub rowing-starts : (row : List ℕ) (w : NibbleWriter) (out : List ℕ) → w.high < 16 → Rowing row w out w out 0
-rowing-starts row w out h = record { upto = omega arith; bound = omega arith; small = h; size = refl; goes = λ ns o i. (ns, i, refl) }
 
 module _ (row : List ℕ) (w₀ : NibbleWriter) (out₀ : List ℕ) (w : NibbleWriter) (out : List ℕ) (col : ℕ) (j : Rowing row w₀ out₀ w out col) where
   pub rowing-none : length row ≤ col → (ns o : List ℕ) → Inked ns o w₀ out₀ → Inked (ns ++ nibbles_of (row_marks last_marks row)) o w out
@@ -273,10 +240,10 @@ module _ (row : List ℕ) (w₀ : NibbleWriter) (out₀ : List ℕ) (w : NibbleW
         let k = row_last (drop col row) n rest_some e l ∙ ap (digits 4) first in
         inked_as (g.0 ++ digits 4 (byte row col)) (ns ++ nibbles_of (row_marks last_marks row)) o r out' (ap (λ (s : List ℕ). g.0 ++ s) (sym k) ∙ g.2) (f g.0 o g.1)
 
-    pub rowing_goes : n < length row - col → (r : NibbleWriter) (out' : List ℕ) → r.pos ≤ w.pos + 4 * n → r.high < 16 → length out' ≡ length out
+    pub rowing_goes : n < length row - col → (r : NibbleWriter) (out' : List ℕ) → r.pos ≤ w.pos + 4 * n
         → ((ns o : List ℕ) → Inked ns o w out → Inked (ns ++ nibbles_of (run_marks n (byte row col))) o r out')
         → Rowing row w₀ out₀ r out' (col + n)
-    rowing_goes q r out' p s z f =
+    rowing_goes q r out' p f =
         let b = j.bound in
         let l : n < length (drop col row) = rw (length-drop col row) q in
         let k = row_more (drop col row) n rest_some e l in
@@ -284,8 +251,6 @@ module _ (row : List ℕ) (w₀ : NibbleWriter) (out₀ : List ℕ) (w : NibbleW
         record {
           upto = omega arith;
           bound = omega arith;
-          small = s;
-          size = z ∙ j.size;
           goes = λ ns o i.
               let g = j.goes ns o i in (
                 g.0 ++ nibbles_of (run_marks n (byte row col)),

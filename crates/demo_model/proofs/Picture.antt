@@ -3,54 +3,30 @@ use Prim.Native.Nat.{ℕ, zero, suc, ◌+◌, ◌-◌, ◌*◌, ◌%◌, ◌≤�
 use native.Mathlib.Nat.{suc-mul, mul_comm, mul-le-mul_right}
 use native.Mathlib.Omega.{arith}
 use mathlib.Core.Path.{◌≡◌, refl, sym, ap, ◌∙◌}
-use mathlib.Core.Bool.{true, false, cond, ◌&&◌}
+use mathlib.Core.Bool.{Bool, true, cond, ◌&&◌}
 use mathlib.Core.List.{List, [], ◌∷◌, ◌++◌, append_assoc, append-nil}
 use lib.ListN.{length, take, drop, length-drop, length-append}
 use lib.Seq.{drop-drop, length-take-le}
 use lib.Dec.{leb, eqb}
-use borrow.Author.Tests.{le-leb, lt-leb, leb-true}
+use borrow.Author.Tests.{leb-true}
 use Rattle.outcome.proofs.Laws.{and-true}
-use Rattle.grammar.specs.Bytes.{byte}
 use Rattle.grammar.specs.Picture.{evens}
 use Rattle.demo_model.specs.Codes.{last_marks, nibbles_of, evened, picture_rows, row_marks, row_nibbles, field_nibbles}
-use Rattle.demo_model.specs.Unit.{is_side, all_colours, Four}
+use Rattle.demo_model.specs.Unit.{all_colours, Four}
 use Rattle.demo_model.specs.Answers.{Inked}
 use Rattle.demo_model.specs.declared.NibbleWriter.{NibbleWriter}
 use Rattle.demo_model.proofs.Fields.{evened-length}
+use Rattle.std.specs.List.{list_all}
 use Rattle.demo_model.proofs.Unit.{four-take, four-drop}
 use Rattle.demo_model.proofs.Ink.{inked_as}
 
 -- ---- Colours
 
--- of the indices, the first i are colours
-pub record Coloured (px : List ℕ) (i : ℕ) : Type 0 where
-  pub same : all_colours px ≡ all_colours (drop i px)
-
-pub coloured-starts : (px : List ℕ) → Coloured px 0
-coloured-starts px = record { same = refl }
-
-colours-at : (px : List ℕ) (i : ℕ) → i < length px → all_colours (drop i px) ≡ (leb (byte px i) 3 && all_colours (drop (i + 1) px))
+-- each index is a colour where each passes the test
+pub colours-all : (px : List ℕ) → list_all (λ x. leb x 3) px ≡ all_colours px
 unfolding all_colours
-colours-at [] i h = absurd (omega arith)
-colours-at (x ∷ px) zero h = refl
-colours-at (x ∷ px) (suc i) h = let z : suc i + 1 ≡ suc (i + 1) = omega arith in rw z (colours-at px i (omega arith))
-
-colours-past : (px : List ℕ) (i : ℕ) → length px ≤ i → all_colours (drop i px) ≡ true
-unfolding all_colours
-colours-past [] zero h = refl
-colours-past [] (suc i) h = refl
-colours-past (x ∷ px) zero h = absurd (omega arith)
-colours-past (x ∷ px) (suc i) h = colours-past px i (omega arith)
-
-module _ (px : List ℕ) (i : ℕ) (c : Coloured px i) where
-  pub coloured-more : i < length px → byte px i ≤ 3 → Coloured px (i + 1)
-  coloured-more h l = record { same = c.same ∙ colours-at px i h ∙ rw (le-leb (byte px i) 3 l) }
-
-  pub coloured-not : i < length px → 3 < byte px i → false ≡ all_colours px
-  coloured-not h l = sym (c.same ∙ colours-at px i h ∙ rw (lt-leb (byte px i) 3 l))
-
-  pub coloured-all : length px ≤ i → true ≡ all_colours px
-  coloured-all h = sym (c.same ∙ colours-past px i h)
+colours-all [] = refl
+colours-all (x ∷ px) = ap (λ (b : Bool). leb x 3 && b) (colours-all px)
 
 pub colours-four : (px : List ℕ) → all_colours px ≡ true → Four px
 unfolding all_colours Four
@@ -62,9 +38,6 @@ colours-four (x ∷ px) h = let a = and-true (leb x 3) (all_colours px) h in let
 -- a row lies in the picture
 pub row_fits : (w h row : ℕ) → row < h → row * w + w ≤ w * h
 row_fits w h row l = let a : suc row * w ≤ h * w = mul-le-mul_right w l in let b = suc-mul row w in let c = mul_comm w h in omega arith
-
-pub row_small : (w h row : ℕ) → w ≤ 4096 → h ≤ 4096 → row < h → row * w + w ≤ 16777216
-row_small w h row a b l = let c : suc row * w ≤ 4096 * w = mul-le-mul_right w (omega arith) in let d = suc-mul row w in omega arith
 
 pub rows-tail : (w n : ℕ) (px : List ℕ) → drop 1 (picture_rows w n px) ≡ picture_rows w (n - 1) (drop w px)
 unfolding picture_rows
@@ -117,12 +90,7 @@ from_past w h px row l = let z : h - row ≡ 0 = omega arith in rw z
 pub record Fielding (px : List ℕ) (w h start : ℕ) (w₀ : NibbleWriter) (out₀ : List ℕ) (pen : NibbleWriter) (out : List ℕ) (row : ℕ) : Type 0 where
   pub upto : row ≤ h + 1
   pub bound : pen.pos ≤ w₀.pos + 16385 * row
-  pub small : pen.high < 16
-  pub size : length out ≡ length out₀
   pub goes : (ns o : List ℕ) → length ns % 2 ≡ 0 → Inked ns o w₀ out₀ → (done : List ℕ) × (length done % 2 ≡ 0) × Inked done o pen out × (done ++ from_row w h px row ≡ ns ++ from_row w h px start)
-
-pub fielding-starts : (px : List ℕ) (w h start : ℕ) (pen : NibbleWriter) (out : List ℕ) → start ≤ h + 1 → pen.high < 16 → Fielding px w h start pen out pen out start
-fielding-starts px w h start pen out l s = record { upto = l; bound = omega arith; small = s; size = refl; goes = λ ns o e i. (ns, e, i, refl) }
 
 module _ (px : List ℕ) (w h start : ℕ) (w₀ : NibbleWriter) (out₀ : List ℕ) (pen : NibbleWriter) (out : List ℕ) (row : ℕ) (j : Fielding px w h start w₀ out₀ pen out row) where
   pub fielding_ends : h ≤ row → (ns o : List ℕ) → length ns % 2 ≡ 0 → Inked ns o w₀ out₀ → Inked (ns ++ from_row w h px start) o pen out
@@ -130,18 +98,16 @@ module _ (px : List ℕ) (w h start : ℕ) (w₀ : NibbleWriter) (out₀ : List 
       let g = j.goes ns o e i in
       inked_as g.0 (ns ++ from_row w h px start) o pen out (sym (append-nil g.0) ∙ ap (λ (k : List ℕ). g.0 ++ k) (sym (from_past w h px row l)) ∙ g.3) g.2
 
-  pub fielding_goes : row < h → (r : NibbleWriter) (out' : List ℕ) → r.pos ≤ pen.pos + 16385 → r.high < 16 → length out' ≡ length out
+  pub fielding_goes : row < h → (r : NibbleWriter) (out' : List ℕ) → r.pos ≤ pen.pos + 16385
       → ((ns o : List ℕ) → Inked ns o pen out → Inked (evened (ns ++ nibbles_of (row_marks last_marks (row_at w px row)))) o r out')
       → Fielding px w h start w₀ out₀ r out' (row + 2)
-  fielding_goes l r out' p s z f =
+  fielding_goes l r out' p f =
       let b = j.bound in
       let n : List ℕ = nibbles_of (row_marks last_marks (row_at w px row)) in
       let v = evened-length (nibbles_of (row_marks last_marks (row_at w px row))) in
       record {
         upto = omega arith;
         bound = omega arith;
-        small = s;
-        size = z ∙ j.size;
         goes = λ ns o e i.
             let g = j.goes ns o e i in
             let q = evened-after g.0 (nibbles_of (row_marks last_marks (row_at w px row))) g.1 in
@@ -163,12 +129,3 @@ row-part-length w px row h = ap length (row-part w px row) ∙ length-take-le w 
 
 pub row-part-four : (w : ℕ) (px : List ℕ) (row : ℕ) → Four px → Four (take (row * w + w - row * w) (drop (row * w) px))
 row-part-four w px row k = four-take (row * w + w - row * w) (drop (row * w) px) (four-drop (row * w) px k)
-
--- sides that may be are small
-pub sides-small : (w h : ℕ) → is_side w ≡ true → is_side h ≡ true → w * h ≤ 16777216
-sides-small w h a b =
-    let x = and-true (leb 1 w) (leb w 4096) a in
-    let y = and-true (leb 1 h) (leb h 4096) b in
-    let l = leb-true h 4096 y.1 in
-    let p : w * h ≤ 4096 * h = mul-le-mul_right h (leb-true w 4096 x.1) in
-    omega arith

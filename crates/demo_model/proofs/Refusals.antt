@@ -11,7 +11,6 @@ use Rattle.outcome.specs.Outcome.{InTable, Res, ok, Numbered, bad_side, not_all_
 use Rattle.outcome.proofs.Numbers.{not-0, in_table, check-numbered, and_then-numbered}
 use Rattle.demo_model.specs.Codes.{last_marks}
 use Rattle.demo_model.specs.Answers.{demo_given}
-use Rattle.demo_model.specs.declared.DemoAnswer.TheVariants as DemoAnswer
 use Rattle.demo_model.specs.Unit.{unit_of, is_side, all_colours, picture_ok, sized_unit, demo_at}
 
 pub demo_numbered : (w h : ℕ) (px : List ℕ) (n : ℕ) → Numbered (demo_at w h px n)
@@ -25,10 +24,10 @@ demo_numbered w h px n =
     (check-numbered InTable (leb (length (unit_of last_marks w h px)) n) short_output (ok (unit_of last_marks w h px)) (in_table short_output refl) tt))
 
 -- so no picture is refused with 0
-pub refused-not : (w h : ℕ) (px : List ℕ) (n k : ℕ) → DemoAnswer.Refused k ≡ demo_given (demo_at w h px n) → k ≡ 0 → ⊥
+pub refused-not : (w h : ℕ) (px : List ℕ) (n k : ℕ) → refuse k ≡ demo_given (demo_at w h px n) → k ≡ 0 → ⊥
 refused-not w h px n k e z = go (demo_at w h px n) (demo_numbered w h px n) e
   where
-    go : (x : Res (List ℕ)) → Numbered x → DemoAnswer.Refused k ≡ demo_given x → ⊥
+    go : (x : Res (List ℕ)) → Numbered x → refuse k ≡ demo_given x → ⊥
     go (ok u) i q = let y : ◌≡◌ {A = ℕ} 0 1 = cc in omega arith
     go (refuse m) i q = let y : k ≡ m = cc in not-0 m i (sym y ∙ z)
 

@@ -6,7 +6,6 @@ use Rattle.demo_model.specs.Codes.{packed, last_marks}
 use Rattle.demo_model.specs.Unit.{Four, top_nibbles, bottom_nibbles, demo_at}
 use Rattle.demo_model.specs.declared.NibbleWriter.{NibbleWriter}
 use Rattle.demo_model.specs.declared.Ends.{Ends}
-use Rattle.demo_model.specs.declared.DemoAnswer.{DemoAnswer}
 
 -- the last of an odd number of nibbles, else 0
 unfoldable pub half : List ℕ → ℕ
@@ -40,11 +39,11 @@ pub record FieldsWritten (w h : ℕ) (px out : List ℕ) (e : Ends) (out' : List
   pub bytes : out' ≡ sets out 4 (packed (top_nibbles last_marks w h px ++ bottom_nibbles last_marks w h px))
 
 -- the length of the written unit
-abbrev pub demo_given : Res (List ℕ) → DemoAnswer
-demo_given (ok u) = DemoAnswer.Wrote (length u)
-demo_given (refuse n) = DemoAnswer.Refused n
+abbrev pub demo_given : Res (List ℕ) → Res ℕ
+demo_given (ok u) = ok (length u)
+demo_given (refuse n) = refuse n
 
 -- what writing a picture leaves: on a refusal nothing is stored
-pub record Written (w h : ℕ) (px out : List ℕ) (r : DemoAnswer) (out' : List ℕ) : Type 0 where
+pub record Written (w h : ℕ) (px out : List ℕ) (r : Res ℕ) (out' : List ℕ) : Type 0 where
   pub answer : r ≡ demo_given (demo_at w h px (length out))
   pub output : out' ≡ sets out 0 (listed (demo_at w h px (length out)))

@@ -1,8 +1,9 @@
 -- What the layer claims: a written unit reads back as the picture that was given. `proofs/Claim.antt` has it kept.
 -- Assumes nothing: these are definitions.
 use Rattle.std.specs.Prelude.{ℕ, ◌+◌, ◌-◌, ◌*◌, ◌/◌, ◌≤◌, ◌≡◌, false, List, [], length, take}
-use Rattle.std.proofs.Math.Option.{some, none}
+use Rattle.std.specs.Prelude.{Some as some, None as none}
 use Rattle.std.proofs.lemmas.List.Edits.{sets}
+use Rattle.outcome.specs.Outcome.{Res, ok, refuse}
 use Rattle.grammar.specs.Bands.{record_words}
 use Rattle.grammar.specs.Record.{Told, told, width, height}
 use Rattle.grammar.specs.Picture.{ListedUnit, IsUnit}
@@ -12,7 +13,6 @@ use Rattle.spu_model.specs.Answers.{Decoded}
 use Rattle.spu_model.specs.declared.Record.{Record}
 use Rattle.demo_model.specs.Codes.{last_marks}
 use Rattle.demo_model.specs.Unit.{top_nibbles}
-use Rattle.demo_model.specs.declared.DemoAnswer.{DemoAnswer}
 use Rattle.spu_model.specs.Unit.{counts_of}
 
 -- what the commands of the control block tell, of a picture whose bottom field is at b
@@ -40,7 +40,6 @@ pub record Listed (w h : ℕ) (px u : List ℕ) (l : ListedUnit) : Type 0 where
 -- what reading it into a map leaves: the size, the place 0 0, as many codes as are listed, none of them clipped, every
 -- pixel, and no band: all words of the record are those of the listed bands, and then 0
 pub record ReadsBack (w h : ℕ) (px : List ℕ) (l : ListedUnit) (map : List ℕ) (r : Record) (map' : List ℕ) : Type 0 where
-  pub accepted : r.refused ≡ 0
   pub x1 : r.spu.x1 ≡ 0
   pub y1 : r.spu.y1 ≡ 0
   pub wide : r.spu.x2 + 1 ≡ w
@@ -52,14 +51,15 @@ pub record ReadsBack (w h : ℕ) (px : List ℕ) (l : ListedUnit) (map : List �
   pub no_band : (told l.blocks).bands ≡ []
   pub pixels : map' ≡ sets map 0 px
 
--- the grammar lists the unit u as the picture, and reading it into any map that holds the picture gives it back
+-- the grammar lists the unit u as the picture, and reading it into any map that holds the picture is accepted and gives
+-- it back
 pub record RoundTrip (w h : ℕ) (px u : List ℕ) : Type 0 where
   pub list : ListedUnit
   pub lists : Listed w h px u list
-  pub reads : (map : List ℕ) → w * h ≤ length map → (r : Record) (map' : List ℕ) → Decoded u map r map'
-      → ReadsBack w h px list map r map'
+  pub reads : (map : List ℕ) → w * h ≤ length map → (r : Res Record) (map' : List ℕ) → Decoded u map r map'
+      → (v : Record) × (r ≡ ok v) × ReadsBack w h px list map v map'
 
 -- of every picture that is accepted, with the unit in the front of the output
-abbrev pub RoundTrips : ℕ → ℕ → List ℕ → DemoAnswer → List ℕ → Type 0
-RoundTrips w h px (DemoAnswer.Wrote n) out = RoundTrip w h px (take n out)
-RoundTrips w h px (DemoAnswer.Refused k) out = Unit {0}
+abbrev pub RoundTrips : ℕ → ℕ → List ℕ → Res ℕ → List ℕ → Type 0
+RoundTrips w h px (ok n) out = RoundTrip w h px (take n out)
+RoundTrips w h px (refuse k) out = Unit {0}

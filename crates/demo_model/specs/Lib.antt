@@ -1,4 +1,5 @@
 pub mod Codes
 pub mod Unit
 pub mod Answers
+pub mod Props
 pub mod Claim

@@ -1,21 +1,13 @@
 // Writes the file of the example title: three pictures as units, one after the other. Its output is the file title.sub of crates/list.
 #![tactic(auto)]
 
-use demo_model::DemoAnswer;
-
-fn write_front(rt: &impl Print, out: &[u8], n: usize) {
-    if n <= out.len() {
-        let _ = rt.write_all(&out[..n]);
-    }
-}
-
+// What a write that fails leaves unwritten stays so.
 fn unit(rt: &impl Print, width: usize, height: usize, picture: &[u8]) {
     let mut out = [0u8; 256];
-    match demo::build_demo_spu(width, height, picture, &mut out) {
-        DemoAnswer::Wrote(n) => {
-            write_front(rt, &out, n);
-        }
-        DemoAnswer::Refused(_) => {}
+    if let Ok(n) = demo::build_demo_spu(width, height, picture, &mut out)
+        && let Some(unit) = out.get(..n)
+    {
+        let _ = rt.write_all(unit);
     }
 }
 

@@ -6,7 +6,7 @@ use Prim.Native.Nat.{ℕ, ◌+◌, ◌-◌, ◌/◌}
 use mathlib.Core.Path.{◌≡◌, refl}
 use mathlib.Core.List.{List, [], ◌∷◌, map}
 use mathlib.Core.Bool.{cond}
-use mathlib.Core.Option.{Option, some, none}
+use Rattle.std.specs.Prelude.{Option, Some as some, None as none}
 use lib.ListN.{take, drop, replicate}
 use Rattle.grammar.specs.Bytes.{nibble, nibbles, word}
 use Rattle.grammar.specs.Rows.{Code, code, colour, paints, overshoots, after_codes, align}

@@ -4,7 +4,7 @@
 use Prim.Native.Nat.{ℕ, ◌*◌, ◌+◌}
 use mathlib.Core.Path.{◌≡◌, refl}
 use mathlib.Core.Bool.{cond}
-use mathlib.Core.Option.{Option, some, none}
+use Rattle.std.specs.Prelude.{Option, Some as some, None as none}
 use mathlib.Core.List.{List, [], ◌∷◌, map, ◌++◌}
 use lib.IntN.{ℤ, pos, negsuc}
 use Rattle.grammar.specs.Bytes.{word}

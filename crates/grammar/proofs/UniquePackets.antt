@@ -4,7 +4,7 @@ use native.Mathlib.Omega.{arith, by_contra}
 use mathlib.Core.Path.{◌≡◌, refl, sym, ap, ap₂, ◌∙◌}
 use mathlib.Core.Logic.{◌⊎◌, inl, inr}
 use mathlib.Core.Bool.{Bool}
-use mathlib.Core.Option.{Option, some, none}
+use Rattle.std.specs.Prelude.{Option, Some as some, None as none}
 use mathlib.Core.List.{List, [], ◌∷◌, ◌++◌}
 use Rattle.grammar.specs.Bytes.{byte, word}
 use Rattle.grammar.specs.Packets.{Part, IsPart, Packet, Stuffing, buffer_size, stamp_size, Header2, Header1, IsBody, length_end, Keeps, IsPack, IsPrivate, IsOther, IsPacket, kept_bytes, Packets, Form, bare, packets, IsForm}

@@ -1,7 +1,7 @@
 -- No two readings of the same files for one cue and stream. Assumes nothing.
 use Prim.Native.Nat.{ℕ}
 use mathlib.Core.Path.{◌≡◌, sym, ap₂, ◌∙◌}
-use mathlib.Core.Option.{some}
+use Rattle.std.specs.Prelude.{Some as some}
 use mathlib.Core.List.{List}
 use Rattle.grammar.specs.Index.{ListedText}
 use Rattle.grammar.specs.IndexCues.{cues_of, cue_at}

@@ -1,6 +1,6 @@
 -- What listed bands give at a place of the display (FORMAT 4.6). Assumes nothing: these are definitions.
 use Rattle.std.specs.Prelude.{ℕ, Bool, cond, ◌&&◌, List, [], ◌∷◌, leb}
-use Rattle.std.proofs.Math.Option.{Option, some, none}
+use Rattle.std.specs.Prelude.{Option, Some as some, None as none}
 use Rattle.grammar.specs.Bands.{Entry, Band}
 
 -- the words of four selectors and of four alphas, colour 0 in the top nibble

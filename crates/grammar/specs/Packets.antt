@@ -1,7 +1,7 @@
 -- Where a unit stands in the file: bare, or in the packets of a program stream (FORMAT 2). Conditions on a finished list of packets; they
 -- find none. Fields have the names of ISO/IEC 13818-1 and 11172-1. Assumes nothing: these are definitions.
 use Rattle.std.specs.Prelude.{ℕ, ◌+◌, ◌/◌, ◌%◌, ◌≤◌, ◌<◌, ◌≡◌, Bool, true, cond, ◌⊎◌, List, [], ◌∷◌, ◌++◌, length, take, eqb}
-use Rattle.std.proofs.Math.Option.{Option, some, none}
+use Rattle.std.specs.Prelude.{Option, Some as some, None as none}
 use Rattle.std.proofs.Math.Seq.{slice}
 use Rattle.grammar.specs.Bytes.{byte, word}
 pub use Rattle.grammar.specs.Parts.{Part}

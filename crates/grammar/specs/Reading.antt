@@ -1,7 +1,7 @@
 -- A reading of index text and file for a cue and a stream, what makes it one, and what it gives (FORMAT 6.4 to 6.7).
 -- It is found by nobody here: it passes or fails. Assumes nothing: these are definitions.
 use Rattle.std.specs.Prelude.{ℕ, ◌*◌, ◌≤◌, ◌<◌, ◌≡◌, Bool, List, map, length, ℤ, pos}
-use Rattle.std.proofs.Math.Option.{Option, some, none}
+use Rattle.std.specs.Prelude.{Option, Some as some, None as none}
 use Rattle.grammar.specs.Index.{ListedText, IsText}
 use Rattle.grammar.specs.IndexCues.{Cue, cues_of, cue_at, palette_of, duration_of}
 use Rattle.grammar.specs.Packets.{Form, IsForm, unit_of, scratch_for, stream_id, top_stream}

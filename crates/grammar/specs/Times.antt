@@ -1,6 +1,6 @@
 -- When a cue's picture is shown and hidden (FORMAT 6.7). Assumes nothing: these are definitions.
 use Rattle.std.specs.Prelude.{ℕ, ◌*◌, ◌/◌, ℤ, pos, ◌+ℤ◌}
-use Rattle.std.proofs.Math.Option.{Option, some, none}
+use Rattle.std.specs.Prelude.{Option, Some as some, None as none}
 use Rattle.grammar.specs.Index.{Stays}
 
 -- a delay of d ticks in microseconds, rounded down: a tick is 1024/90000 of a second

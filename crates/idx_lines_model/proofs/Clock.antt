@@ -3,7 +3,9 @@ use Prim.Native.Nat.{ℕ, zero, suc, ◌-◌, ◌^◌, ◌≤◌}
 use mathlib.Core.Path.{◌≡◌, refl, sym, ap, ◌∙◌, subst}
 use mathlib.Core.Bool.{Bool, true, false, ◌&&◌}
 use mathlib.Core.Logic.{inl, inr}
-use mathlib.Core.Option.{some, none}
+use Rattle.std.specs.Prelude.{Option, Some as some, None as none, Result, ok_or}
+use Rattle.outcome.specs.declared.Refusal.{Refusal}
+use Rattle.outcome.specs.declared.Refusal.TheVariants.{LongTime}
 use mathlib.Core.List.{List, [], ◌∷◌}
 use native.Mathlib.Omega.{arith}
 use native.Mathlib.Nat.{add-zero}
@@ -13,24 +15,21 @@ use mir.Syntax.{w64}
 use mir.Val.{SFits, to_z, of_z}
 use mir.Facts.{to_z-of_z}
 use borrow.Author.Tests.{le-leb}
-use Rattle.outcome.specs.Outcome.{Res, ok, refuse, check, bad_time, long_time}
+use Rattle.outcome.specs.Outcome.{Res, ok, refuse, answered, check, bad_time, long_time}
 use Rattle.grammar.specs.Index.{field, minutes, seconds, start_of}
 use Rattle.grammar.specs.IndexNumbers.{Valued, Signed, Unsigned}
 use Rattle.grammar.specs.IndexParts.{colon}
 use Rattle.grammar.specs.Parts.{Part}
 use Rattle.idx_numbers_model.specs.Parts.{split}
-use Rattle.idx_lines_model.specs.Answers.{fields_from, head_field, later, FieldAt, NextOf, field_in, time_at}
+use Rattle.idx_lines_model.specs.Answers.{fields_from, head_field, later, FieldAt, NextOf, field_in, field_is, time_at}
 use Rattle.clock_model.specs.Sums.{stays}
 use Rattle.idx_lines_model.specs.Lines.{fields, steps}
 use Rattle.outcome.proofs.Laws.{ok-injective}
 use Rattle.idx_numbers_model.proofs.Grammar.{never, signed_is}
 use Rattle.idx_lines_model.proofs.Grammar.{given, checked, steps-is}
 use Rattle.idx_lines_model.specs.declared.Field.{Field}
-use Rattle.idx_lines_model.specs.declared.Field.TheVariants.{Bad as NoField, Is as IsField}
 use Rattle.clock_model.specs.Sums as S
 use Rattle.idx_numbers_model.specs.Times as T
-use Rattle.clock_model.specs.declared.Num.{Num}
-use Rattle.clock_model.specs.declared.Num.TheVariants.{Over, Is}
 
 -- ---- fields in turn, of any list of parts
 fields-nil : (n : ℕ) → fields n [] ≡ some []
@@ -62,12 +61,12 @@ fields-good n [] z fs e f =
 fields-good n (p ∷ ps) z fs e f = record { all = record { part = p; value = z } ∷ fs; are = rw (e, f); first = refl; next = λ k. refl }
 
 -- ---- the sum, as the crate `times` has it
-abbrev num_says : Num → Res ℤ
-num_says Over = refuse long_time
-num_says (Is z) = ok z
+abbrev num_says : Option ℤ → Res ℤ
+num_says none = refuse long_time
+num_says (some z) = ok z
 
 seven : (a b c d e f g : Bool) (z : ℤ)
-    → num_says (S.pick a (S.pick b (S.pick c (S.pick d (S.pick e (S.pick f (S.pick g (Is z) Over) Over) Over) Over) Over) Over) Over)
+    → num_says (S.pick a (S.pick b (S.pick c (S.pick d (S.pick e (S.pick f (S.pick g (some z) none) none) none) none) none) none) none)
     ≡ check (a && (b && (c && (d && (e && (f && g)))))) long_time (ok z)
 seven false b c d e f g z = refl
 seven true false c d e f g z = refl
@@ -78,7 +77,7 @@ seven true true true true true false g z = refl
 seven true true true true true true false z = refl
 seven true true true true true true true z = refl
 
-picks : (t : Bool) (z : ℤ) (k : ℤ → Num) → T.and_then (S.pick t (Is z) Over) k ≡ S.pick t (k z) Over
+picks : (t : Bool) (z : ℤ) (k : ℤ → Option ℤ) → T.and_then (S.pick t (some z) none) k ≡ S.pick t (k z) none
 picks true z k = refl
 picks false z k = refl
 
@@ -146,51 +145,51 @@ field_fits (p ∷ ps) z e = go (signed_is p.bytes z e)
     go (inl h) = rw h.2 (record { sfits = omega (arith, high h.0 h.1) })
     go (inr h) = rw h.4 (low h.1 h.3.within)
 
-module _ (t : List ℕ) (i : ℕ) (r : Field) (e : FieldAt t i r) where
-  told : (z : ℤ) (n : ℕ) → r ≡ IsField z n → (p : ℕ) → head_field (fields_from p i t) ≡ some z
+module _ (t : List ℕ) (i : ℕ) (r : Option Field) (e : FieldAt t i r) where
+  told : (z : ℤ) (n : ℕ) → r ≡ some (field_is z n) → (p : ℕ) → head_field (fields_from p i t) ≡ some z
   told z n f p = sym (e.says p) ∙ ap field_in f
 
-  missed : r ≡ NoField → (p : ℕ) → head_field (fields_from p i t) ≡ none
+  missed : r ≡ none → (p : ℕ) → head_field (fields_from p i t) ≡ none
   missed f p = sym (e.says p) ∙ ap field_in f
 
-  on : (z : ℤ) (n : ℕ) → r ≡ IsField z n → (p : ℕ) → fields_from p n t ≡ later (fields_from p i t)
+  on : (z : ℤ) (n : ℕ) → r ≡ some (field_is z n) → (p : ℕ) → fields_from p n t ≡ later (fields_from p i t)
   on z n f = subst (NextOf t i) f e.next
 
-module _ (t : List ℕ) (r₁ : Field) (e₁ : FieldAt t 0 r₁) where
-  pub clock_1 : r₁ ≡ NoField → (p : ℕ) → refuse bad_time ≡ time_at (split colon p t)
+module _ (t : List ℕ) (r₁ : Option Field) (e₁ : FieldAt t 0 r₁) where
+  pub clock_1 : r₁ ≡ none → (p : ℕ) → refuse bad_time ≡ time_at (split colon p t)
   clock_1 f p = bad_1 (split colon p t) (rw (from_zero p t) at (missed t 0 r₁ e₁ f p))
 
-  module _ (h : ℤ) (a : ℕ) (i₁ : r₁ ≡ IsField h a) (r₂ : Field) (e₂ : FieldAt t a r₂) where
+  module _ (h : ℤ) (a : ℕ) (i₁ : r₁ ≡ some (field_is h a)) (r₂ : Option Field) (e₂ : FieldAt t a r₂) where
     first : (p : ℕ) → head_field (split colon p t) ≡ some h
     first p = rw (from_zero p t) at (told t 0 r₁ e₁ h a i₁ p)
 
     to_a : (p : ℕ) → fields_from p a t ≡ later (split colon p t)
     to_a p = on t 0 r₁ e₁ h a i₁ p ∙ ap later (from_zero p t)
 
-    pub clock_2 : r₂ ≡ NoField → (p : ℕ) → refuse bad_time ≡ time_at (split colon p t)
+    pub clock_2 : r₂ ≡ none → (p : ℕ) → refuse bad_time ≡ time_at (split colon p t)
     clock_2 f p = bad_2 (split colon p t) h (first p) (rw (to_a p) at (missed t a r₂ e₂ f p))
 
-    module _ (m : ℤ) (b : ℕ) (i₂ : r₂ ≡ IsField m b) (r₃ : Field) (e₃ : FieldAt t b r₃) where
+    module _ (m : ℤ) (b : ℕ) (i₂ : r₂ ≡ some (field_is m b)) (r₃ : Option Field) (e₃ : FieldAt t b r₃) where
       second : (p : ℕ) → head_field (later (split colon p t)) ≡ some m
       second p = rw (to_a p) at (told t a r₂ e₂ m b i₂ p)
 
       to_b : (p : ℕ) → fields_from p b t ≡ later (later (split colon p t))
       to_b p = on t a r₂ e₂ m b i₂ p ∙ ap later (to_a p)
 
-      pub clock_3 : r₃ ≡ NoField → (p : ℕ) → refuse bad_time ≡ time_at (split colon p t)
+      pub clock_3 : r₃ ≡ none → (p : ℕ) → refuse bad_time ≡ time_at (split colon p t)
       clock_3 f p = bad_3 (split colon p t) h (first p) m (second p) (rw (to_b p) at (missed t b r₃ e₃ f p))
 
-      module _ (s : ℤ) (d : ℕ) (i₃ : r₃ ≡ IsField s d) (r₄ : Field) (e₄ : FieldAt t d r₄) where
+      module _ (s : ℤ) (d : ℕ) (i₃ : r₃ ≡ some (field_is s d)) (r₄ : Option Field) (e₄ : FieldAt t d r₄) where
         third : (p : ℕ) → head_field (later (later (split colon p t))) ≡ some s
         third p = rw (to_b p) at (told t b r₃ e₃ s d i₃ p)
 
         to_d : (p : ℕ) → fields_from p d t ≡ later (later (later (split colon p t)))
         to_d p = on t b r₃ e₃ s d i₃ p ∙ ap later (to_b p)
 
-        pub clock_4 : r₄ ≡ NoField → (p : ℕ) → refuse bad_time ≡ time_at (split colon p t)
+        pub clock_4 : r₄ ≡ none → (p : ℕ) → refuse bad_time ≡ time_at (split colon p t)
         clock_4 f p = bad_4 (split colon p t) h (first p) m (second p) s (third p) (rw (to_d p) at (missed t d r₄ e₄ f p))
 
-        pub clock-all : (ms : ℤ) (x : ℕ) → r₄ ≡ IsField ms x → (n : Num)
+        pub clock-all : (ms : ℤ) (x : ℕ) → r₄ ≡ some (field_is ms x) → (n : Option ℤ)
             → n ≡ T.micros_of (to_z w64 (of_z w64 h)) (to_z w64 (of_z w64 m)) (to_z w64 (of_z w64 s)) (to_z w64 (of_z w64 ms))
             → (p : ℕ) → num_says n ≡ time_at (split colon p t)
         clock-all ms x i₄ n e p =
@@ -201,16 +200,13 @@ module _ (t : List ℕ) (r₁ : Field) (e₁ : FieldAt t 0 r₁) where
             let f₄ : to_z w64 (of_z w64 ms) ≡ ms = to_z-of_z {w = w64} (field_fits (later (later (later (split colon p t)))) ms a₄) in
             rw e (rw (f₁, f₂, f₃, f₄) (all-good (split colon p t) h (first p) m (second p) s (third p) ms a₄))
 
-pub clock_over : (n : Num) (r : Res ℤ) → n ≡ Over → num_says n ≡ r → refuse long_time ≡ r
-clock_over n r e f = ap num_says (sym e) ∙ f
+-- the sum, or 8 where there is none
+pub clock-last : (n : Option ℤ) (q : Result ℤ Refusal) (r : Res ℤ) → q ≡ ok_or n LongTime → num_says n ≡ r → answered q ≡ r
+clock-last none q r e f = ap answered e ∙ f
+clock-last (some z) q r e f = ap answered e ∙ f
 
 pub time-fits : (ps : List Part) (z : ℤ) → time_at ps ≡ ok z → SFits w64 z
 unfolding time_at
 time-fits ps z e =
     given bad_time (fields 4 ps) _ e (λ fs q e₁.
     checked long_time (steps fs) (ok (start_of fs)) e₁ (λ k e₂. rw (← ok-injective e₂) (record { sfits = (steps-is fs k).start })))
-
-pub clock-is : (n : Num) (z : ℤ) (ps : List Part) → n ≡ Is z → num_says n ≡ time_at ps → ok (to_z w64 (of_z w64 z)) ≡ time_at ps
-clock-is n z ps e f =
-    let q : ok z ≡ time_at ps = ap num_says (sym e) ∙ f in
-    ap ok (to_z-of_z {w = w64} (time-fits ps z (sym q))) ∙ q

@@ -1,37 +1,33 @@
--- The arms of `count_at`, `negated` and `field_at`, over plain variables. Assumes nothing.
+-- The arms of `count_at`, `signed_at` and `field_at`, over plain variables. Assumes nothing.
 use Prim.Native.Nat.{ℕ, zero, suc, ◌+◌, ◌-◌, ◌^◌, ◌≤◌, ◌<◌}
 use mathlib.Core.Path.{◌≡◌, refl, sym, ap, ◌∙◌, subst}
 use mathlib.Core.Bool.{Bool, true, false, not, cond}
 use mathlib.Core.Logic.{⊎_elim}
-use mathlib.Core.Option.{some, none}
+use Rattle.std.specs.Prelude.{Option, Some as some, None as none}
 use mathlib.Core.List.{List, [], ◌∷◌}
 use native.Mathlib.Omega.{arith}
 use native.Mathlib.Numerals.{add-one}
-use native.Mathlib.Nat.{zero-add}
 use lib.ListN.{length, get_or, take, drop, drop_of_length-le, length-drop}
 use lib.Seq.{drop-cons, take_all, get_or-drop}
 use lib.Dec.{eqb}
-use lib.IntN.{ℤ, pos, negsuc, neg_ℤ, ◌-ℤ◌}
+use lib.IntN.{ℤ, pos, neg_ℤ}
 use mir.Syntax.{w64}
 use mir.Val.{SFits, to_z, of_z}
 use mir.Facts.{to_z-of_z, to_z_pos}
 use borrow.Author.Tests.{eqb-true, ne_eqb, le-leb, lt-leb, le-ltb}
 use Rattle.grammar.specs.IndexNumbers.{is_digit, numeral, digit}
 use Rattle.grammar.specs.IndexParts.{unlike, colon}
-use Rattle.idx_numbers_model.specs.Answers.{run_of}
+use Rattle.idx_numbers_model.specs.Answers.{run, run_of}
 use Rattle.idx_numbers_model.specs.Numbers.{digits, unsigned, sign, signed}
 use Rattle.idx_numbers_model.specs.Parts.{front, part, split, all}
-use Rattle.idx_lines_model.specs.Answers.{fields_from, head_field, later, FieldAt, counted_in, EndOf, CountedAt}
+use Rattle.idx_lines_model.specs.Answers.{fields_from, head_field, later, FieldAt, field_is, counted, counted_in, EndOf, CountedAt}
 use Rattle.outcome.proofs.Laws.{le_or_lt}
 use Rattle.idx_numbers_model.proofs.Grammar.{never, digits-is}
 use Rattle.idx_numbers_model.proofs.Numbers.{RunSays, run-says, run-past-top, digits-over, digits-none, digits-short, digits-whole, ten_low}
 use Rattle.idx_numbers_model.proofs.Steps.{last-part, next-part, part-is, other-false}
 use Rattle.idx_numbers_model.proofs.Loops.{front-le}
-use Rattle.idx_numbers_model.specs.declared.Run.{Run}
-use Rattle.idx_numbers_model.specs.declared.Run.TheVariants.{Over as RunOver, Is as RunIs}
+use Rattle.idx_numbers_model.specs.declared.Digits.{Digits}
 use Rattle.idx_lines_model.specs.declared.Counted.{Counted}
-use Rattle.idx_lines_model.specs.declared.Counted.TheVariants.{Bad as NoCount, Is as IsCount}
-use Rattle.idx_lines_model.specs.declared.Field.TheVariants.{Bad as NoField, Is as IsField}
 
 -- ---- the front of a front
 front-front : (p q : ℕ → Bool) → ((b : ℕ) → p b ≡ true → q b ≡ true) → (s : List ℕ) → front p (front q s) ≡ front p s
@@ -73,7 +69,7 @@ digit-apart b e = go (eqb b colon) refl
     go false q = refl
 
 -- ---- digits up to a colon
-module _ (s : List ℕ) (i top : ℕ) (inside : i ≤ length s) (r : Run) (read : r ≡ run_of 10 top (take (length s - i) (drop i s))) where
+module _ (s : List ℕ) (i top : ℕ) (inside : i ≤ length s) (r : Option Digits) (read : r ≡ run_of 10 top (take (length s - i) (drop i s))) where
   field : List ℕ
   field = front (unlike colon) (drop i s)
 
@@ -84,11 +80,11 @@ module _ (s : List ℕ) (i top : ℕ) (inside : i ≤ length s) (r : Run) (read 
   unfolding field
   same-run = front-front (is_digit 10) (unlike colon) digit-apart (drop i s)
 
-  pub count_over : r ≡ RunOver → CountedAt s i top NoCount
+  pub count_over : r ≡ none → CountedAt s i top none
   unfolding field
   count_over e = record { says = digits-over 10 top (omega arith) field (rw same-run (run-past-top 10 top (drop i s) r read' e)); end = tt }
 
-  module _ (n v : ℕ) (e : r ≡ RunIs n v) where
+  module _ (n v : ℕ) (e : r ≡ some (run n v)) where
     says : RunSays 10 top (drop i s) n v
     says = run-says 10 top (drop i s) r read' n v e
 
@@ -101,22 +97,22 @@ module _ (s : List ℕ) (i top : ℕ) (inside : i ≤ length s) (r : Run) (read 
     pub run_inside : i + n ≤ length s
     run_inside = omega (arith, says.count, front-le (is_digit 10) (drop i s), length-drop i s)
 
-    pub count_none : n ≡ 0 → CountedAt s i top NoCount
+    pub count_none : n ≡ 0 → CountedAt s i top none
     unfolding field
     count_none z = record { says = digits-none 10 top (omega arith) field (sym count ∙ z); end = tt }
 
-    whole : length field ≤ n → (n ≡ 0 → ⊥) → CountedAt s i top (IsCount v (i + n))
+    whole : length field ≤ n → (n ≡ 0 → ⊥) → CountedAt s i top (some (counted v (i + n)))
     unfolding field
     whole l z =
         let w : RunSays 10 top field n v = record { count = count; number = says.number ∙ ap (numeral 10 0) (sym same-run); within = says.within } in
         let q : n ≡ length field = omega (arith, shorter) in
         record { says = digits-whole 10 top (omega arith) field n v w z l; end = ap (λ (k : ℕ). i + k) q }
 
-    pub count_end : (n ≡ 0 → ⊥) → length s ≤ i + n → CountedAt s i top (IsCount v (i + n))
+    pub count_end : (n ≡ 0 → ⊥) → length s ≤ i + n → CountedAt s i top (some (counted v (i + n)))
     unfolding field
     count_end z l = whole (omega (arith, front-le (unlike colon) (drop i s), length-drop i s)) z
 
-    pub count-colon : (n ≡ 0 → ⊥) → get_or s (i + n) 0 ≡ colon → CountedAt s i top (IsCount v (i + n))
+    pub count-colon : (n ≡ 0 → ⊥) → get_or s (i + n) 0 ≡ colon → CountedAt s i top (some (counted v (i + n)))
     unfolding field
     count-colon z c = ⊎_elim (λ l. whole l z) (λ l. absurd (wrong l)) (le_or_lt (length field) n)
       where
@@ -127,7 +123,7 @@ module _ (s : List ℕ) (i top : ℕ) (inside : i ≤ length s) (r : Run) (read 
             let d : unlike colon colon ≡ true = rw b at a in
             never (cc)
 
-    pub count_other : i + n < length s → (get_or s (i + n) 0 ≡ colon → ⊥) → CountedAt s i top NoCount
+    pub count_other : i + n < length s → (get_or s (i + n) 0 ≡ colon → ⊥) → CountedAt s i top none
     unfolding field
     count_other h c = record { says = digits-short 10 top (omega arith) field (⊎_elim (λ l. absurd (wrong l)) (λ l. omega (arith, count)) (le_or_lt (length field) n)); end = tt }
       where
@@ -138,34 +134,6 @@ module _ (s : List ℕ) (i top : ℕ) (inside : i ≤ length s) (r : Run) (read 
             let a : unlike colon (get_or (drop i s) n 0) ≡ false = rw q at (front-end (unlike colon) (drop i s) k) in
             c (sym (get_or-drop i s n 0) ∙ other-false colon (get_or (drop i s) n 0) a)
 
--- ---- a number below 0: -1 less n
-less : (n : ℕ) → negsuc 0 -ℤ pos n ≡ negsuc n
-less zero = refl
-less (suc n) = rw (zero-add n)
-
-pub zero-negated : (v : ℕ) → v ≡ 0 → pos 0 ≡ neg_ℤ (pos v)
-zero-negated v e = rw e
-
-module _ (v : ℕ) (most : v ≤ 2 ^ 63) (some_v : v ≡ 0 → ⊥) where
-  small : to_z w64 (v - 1) ≡ pos (v - 1)
-  small = to_z_pos w64 (omega arith)
-
-  minus : negsuc 0 -ℤ to_z w64 (v - 1) ≡ negsuc (v - 1)
-  minus = rw small (less (v - 1))
-
-  pub minus_fits : SFits w64 (negsuc 0 -ℤ to_z w64 (v - 1))
-  minus_fits = rw minus (record { sfits = omega arith })
-
-  neg_is : negsuc (v - 1) ≡ neg_ℤ (pos v)
-  neg_is = go v some_v
-    where
-      go : (n : ℕ) → (n ≡ 0 → ⊥) → negsuc (n - 1) ≡ neg_ℤ (pos n)
-      go zero h = absurd (h refl)
-      go (suc n) h = let e : suc n - 1 ≡ n = omega arith in rw e
-
-  pub minus_is : to_z w64 (of_z w64 (negsuc 0 -ℤ to_z w64 (v - 1))) ≡ neg_ℤ (pos v)
-  minus_is = to_z-of_z {w = w64} minus_fits ∙ minus ∙ neg_is
-
 -- what fits is read back from its bits as it is
 neg_fits : (v : ℕ) → v ≤ 2 ^ 63 → SFits w64 (neg_ℤ (pos v))
 neg_fits zero h = record { sfits = omega arith }
@@ -173,9 +141,6 @@ neg_fits (suc v) h = record { sfits = omega arith }
 
 -- ---- a field
 module _ (s : List ℕ) (i : ℕ) where
-  pub field-missing : length s < i → FieldAt s i (IsField (pos 0) i)
-  field-missing h = record { says = λ p. rw (lt-leb i (length s) h); next = λ p. rw (lt-leb i (length s) h) }
-
   module _ (inside : i ≤ length s) where
     n : ℕ
     n = length (front (unlike colon) (take (length s - i) (drop i s)))
@@ -195,34 +160,34 @@ module _ (s : List ℕ) (i : ℕ) where
         (λ h. rw (le-leb i (length s) inside, le-leb (i + n + 1) (length s) (omega arith)) (next-part colon s i n inside refl p h ∙ ap (λ (l : List ℕ). part (p + i) l ∷ split colon (p + (i + n + 1)) (drop (i + n + 1) s)) (part-is colon s i n inside refl)))
         (le_or_lt (length s) (i + n))
 
-    pub field-bad : none ≡ signed (front (unlike colon) (drop i s)) → FieldAt s i NoField
+    pub field-bad : none ≡ signed (front (unlike colon) (drop i s)) → FieldAt s i none
     field-bad e = record { says = λ p. e ∙ sym (ap head_field (step p)); next = tt }
 
-    pub field-good : (z : ℤ) (e : ℕ) → some z ≡ signed (front (unlike colon) (drop i s)) → e ≡ i + length (front (unlike colon) (drop i s)) → FieldAt s i (IsField z (e + 1))
+    pub field-good : (z : ℤ) (e : ℕ) → some z ≡ signed (front (unlike colon) (drop i s)) → e ≡ i + length (front (unlike colon) (drop i s)) → FieldAt s i (some (field_is z (e + 1)))
     field-good z e f g = record {
       says = λ p. f ∙ sym (ap head_field (step p));
       next = λ p. let q : e + 1 ≡ i + n + 1 = omega (arith, g, long) in rw q (sym (ap later (step p)));
     }
 
-  pub field-empty : i ≡ length s → FieldAt s i NoField
+  pub field-empty : i ≡ length s → FieldAt s i none
   unfolding front signed
   field-empty e = let h : length s ≤ i = omega arith in field-bad (omega arith) (rw (drop_of_length-le s h))
 
 -- what a count says
-module _ (s : List ℕ) (j top : ℕ) (r : Counted) (told : CountedAt s j top r) where
-  counted_none : r ≡ NoCount → none ≡ digits 10 top (front (unlike colon) (drop j s))
+module _ (s : List ℕ) (j top : ℕ) (r : Option Counted) (told : CountedAt s j top r) where
+  counted_none : r ≡ none → none ≡ digits 10 top (front (unlike colon) (drop j s))
   counted_none e = sym (ap counted_in e) ∙ told.says
 
-  counted-some : (v d : ℕ) → r ≡ IsCount v d → some v ≡ digits 10 top (front (unlike colon) (drop j s))
+  counted-some : (v d : ℕ) → r ≡ some (counted v d) → some v ≡ digits 10 top (front (unlike colon) (drop j s))
   counted-some v d e = sym (ap counted_in e) ∙ told.says
 
-  pub counted-end : (v d : ℕ) → r ≡ IsCount v d → d ≡ j + length (front (unlike colon) (drop j s))
+  pub counted-end : (v d : ℕ) → r ≡ some (counted v d) → d ≡ j + length (front (unlike colon) (drop j s))
   counted-end v d e = subst (EndOf s j) e told.end
 
-  pub counted-most : (v d : ℕ) → r ≡ IsCount v d → v ≤ top
+  pub counted-most : (v d : ℕ) → r ≡ some (counted v d) → v ≤ top
   counted-most v d e = (digits-is 10 top (front (unlike colon) (drop j s)) v (sym (counted-some v d e))).within
 
-  pub counted_in_lem : (v d : ℕ) → r ≡ IsCount v d → j ≤ length s → d ≤ length s
+  pub counted_in_lem : (v d : ℕ) → r ≡ some (counted v d) → j ≤ length s → d ≤ length s
   counted_in_lem v d e h = omega (arith, counted-end v d e, front-le (unlike colon) (drop j s), length-drop j s)
 
 -- ---- the sign of a field
@@ -241,12 +206,12 @@ module _ (s : List ℕ) (i : ℕ) (inside : i < length s) where
   long-sign x e h = let q = ap length (signs x e h) in omega (arith, q)
 
   -- with a sign, the digits follow it
-  module _ (r : Counted) (top : ℕ) (told : CountedAt s (i + 1) top r) where
-    pub minus_bad : top ≡ 2 ^ 63 → get_or s i 0 ≡ 45 → r ≡ NoCount → FieldAt s i NoField
+  module _ (r : Option Counted) (top : ℕ) (told : CountedAt s (i + 1) top r) where
+    pub minus_bad : top ≡ 2 ^ 63 → get_or s i 0 ≡ 45 → r ≡ none → FieldAt s i none
     unfolding signed
     minus_bad t e f = let w = rw t at (counted_none s (i + 1) top r told f) in field-bad s i (omega arith) (rw (signs 45 e (λ q. omega arith), ← w))
 
-    pub minus_good : top ≡ 2 ^ 63 → get_or s i 0 ≡ 45 → (v d : ℕ) → r ≡ IsCount v d → (z : ℤ) → z ≡ neg_ℤ (pos v) → FieldAt s i (IsField (to_z w64 (of_z w64 z)) (d + 1))
+    pub minus_good : top ≡ 2 ^ 63 → get_or s i 0 ≡ 45 → (v d : ℕ) → r ≡ some (counted v d) → (z : ℤ) → z ≡ neg_ℤ (pos v) → FieldAt s i (some (field_is (to_z w64 (of_z w64 z)) (d + 1)))
     unfolding signed
     minus_good t e v d f z g =
         let w = rw t at (counted-some s (i + 1) top r told v d f) in
@@ -254,11 +219,11 @@ module _ (s : List ℕ) (i : ℕ) (inside : i < length s) where
         let y : to_z w64 (of_z w64 z) ≡ neg_ℤ (pos v) = ap (λ (x : ℤ). to_z w64 (of_z w64 x)) g ∙ to_z-of_z {w = w64} (neg_fits v l) in
         field-good s i (omega arith) (to_z w64 (of_z w64 z)) d (rw (signs 45 e (λ q. omega arith), ← w, y)) (counted-end s (i + 1) top r told v d f ∙ long-sign 45 e (λ q. omega arith))
 
-    pub plus-bad : top ≡ 2 ^ 63 - 1 → get_or s i 0 ≡ 43 → r ≡ NoCount → FieldAt s i NoField
+    pub plus-bad : top ≡ 2 ^ 63 - 1 → get_or s i 0 ≡ 43 → r ≡ none → FieldAt s i none
     unfolding signed unsigned
     plus-bad t e f = let w = rw t at (counted_none s (i + 1) top r told f) in field-bad s i (omega arith) (rw (signs 43 e (λ q. omega arith), ← w))
 
-    pub plus-good : top ≡ 2 ^ 63 - 1 → get_or s i 0 ≡ 43 → (v d : ℕ) → r ≡ IsCount v d → FieldAt s i (IsField (to_z w64 v) (d + 1))
+    pub plus-good : top ≡ 2 ^ 63 - 1 → get_or s i 0 ≡ 43 → (v d : ℕ) → r ≡ some (counted v d) → FieldAt s i (some (field_is (to_z w64 v) (d + 1)))
     unfolding signed unsigned
     plus-good t e v d f =
         let w = rw t at (counted-some s (i + 1) top r told v d f) in
@@ -267,7 +232,7 @@ module _ (s : List ℕ) (i : ℕ) (inside : i < length s) where
         field-good s i (omega arith) (to_z w64 v) d (rw (signs 43 e (λ q. omega arith), ← w, y)) (counted-end s (i + 1) top r told v d f ∙ long-sign 43 e (λ q. omega arith))
 
   -- without one, they start the field
-  module _ (no_minus : get_or s i 0 ≡ 45 → ⊥) (no_plus : get_or s i 0 ≡ 43 → ⊥) (r : Counted) (top : ℕ) (told : CountedAt s i top r) where
+  module _ (no_minus : get_or s i 0 ≡ 45 → ⊥) (no_plus : get_or s i 0 ≡ 43 → ⊥) (r : Option Counted) (top : ℕ) (told : CountedAt s i top r) where
     plain : signed (front (unlike colon) (drop i s)) ≡ sign pos (digits 10 (2 ^ 63 - 1) (front (unlike colon) (drop i s)))
     unfolding signed unsigned front
     plain = rw (drop-cons s i 0 inside) (go (unlike colon (get_or s i 0)))
@@ -276,10 +241,10 @@ module _ (s : List ℕ) (i : ℕ) (inside : i < length s) where
         go true = rw (ne_eqb (get_or s i 0) 45 no_minus, ne_eqb (get_or s i 0) 43 no_plus)
         go false = refl
 
-    pub plain_bad : top ≡ 2 ^ 63 - 1 → r ≡ NoCount → FieldAt s i NoField
+    pub plain_bad : top ≡ 2 ^ 63 - 1 → r ≡ none → FieldAt s i none
     plain_bad t f = let w = rw t at (counted_none s i top r told f) in field-bad s i (omega arith) (rw (plain, ← w))
 
-    pub plain_good : top ≡ 2 ^ 63 - 1 → (v d : ℕ) → r ≡ IsCount v d → FieldAt s i (IsField (to_z w64 v) (d + 1))
+    pub plain_good : top ≡ 2 ^ 63 - 1 → (v d : ℕ) → r ≡ some (counted v d) → FieldAt s i (some (field_is (to_z w64 v) (d + 1)))
     plain_good t v d f =
         let w = rw t at (counted-some s i top r told v d f) in
         let l : v ≤ 2 ^ 63 - 1 = rw t at (counted-most s i top r told v d f) in
@@ -287,7 +252,7 @@ module _ (s : List ℕ) (i : ℕ) (inside : i < length s) where
         field-good s i (omega arith) (to_z w64 v) d (rw (plain, ← w, y)) (counted-end s i top r told v d f)
 
   -- a byte below the digits that is no sign starts no number
-  pub below_bad : get_or s i 0 < 48 → (get_or s i 0 ≡ 45 → ⊥) → (get_or s i 0 ≡ 43 → ⊥) → FieldAt s i NoField
+  pub below_bad : get_or s i 0 < 48 → (get_or s i 0 ≡ 45 → ⊥) → (get_or s i 0 ≡ 43 → ⊥) → FieldAt s i none
   unfolding signed unsigned all
   below_bad h no_minus no_plus =
       field-bad s i (omega arith)

@@ -1,13 +1,11 @@
 -- The turns of `parse_palette`, and what its colours are. Assumes nothing.
-use Prim.Native.Nat.{ℕ, zero, suc, ◌+◌, ◌-◌, ◌*◌, ◌/◌, ◌%◌, ◌≤◌, ◌<◌}
+use Prim.Native.Nat.{ℕ, zero, suc, ◌+◌, ◌-◌, ◌*◌, ◌≤◌, ◌<◌}
 use mathlib.Core.Path.{◌≡◌, refl, sym, ap, ◌∙◌}
 use mathlib.Core.Bool.{Bool, true, false, ◌||◌}
-use mathlib.Core.Option.{Option, some, none}
+use Rattle.std.specs.Prelude.{Option, Some as some, None as none}
 use mathlib.Core.List.{List, [], ◌∷◌, ◌++◌}
 use native.Mathlib.Omega.{arith}
-use native.Mathlib.Nat.{add-zero}
-use native.Mathlib.Numerals.{add-one, add-two}
-use lib.ListN.{length, set, get_or, take, drop, drop_of_length-le, length-drop}
+use lib.ListN.{length, get_or, take, drop, drop_of_length-le, length-drop}
 use lib.Seq.{drop-cons, take_all, drop-drop, sets}
 use lib.Dec.{ltb}
 use borrow.Author.Tests.{lt-ltb}
@@ -17,7 +15,6 @@ use Rattle.grammar.specs.IndexCues.{some_token, colours_of, palette_from}
 use Rattle.grammar.specs.IndexNumbers.{Valued}
 use Rattle.grammar.specs.IndexParts.{parting, token_byte}
 use Rattle.grammar.specs.Parts.{Part}
-use Rattle.idx_numbers_model.specs.Answers.{test, value_in}
 use Rattle.idx_numbers_model.specs.Numbers.{hex}
 use Rattle.idx_numbers_model.specs.Parts.{part, front, rest}
 use Rattle.idx_lines_model.specs.Answers.{Value, coloured, lean, rgb, palette_after, TokensRead}
@@ -25,37 +22,23 @@ use Rattle.idx_lines_model.specs.Lines.{cons_with, token_and, tokens, palette_at
 use Rattle.outcome.proofs.Laws.{ok-not-refuse, sets-append}
 use Rattle.idx_numbers_model.proofs.Loops.{take-front, front-le, drop-front}
 use Rattle.idx_lines_model.proofs.Grammar.{cons_inv}
-use Rattle.idx_lines_model.specs.declared.Line.TheVariants as line
-use Rattle.idx_numbers_model.specs.declared.Kind.{Kind}
-use Rattle.idx_numbers_model.specs.declared.Kind.TheVariants.{Parting, Token}
-use Rattle.idx_numbers_model.specs.declared.Number.{Number}
-use Rattle.idx_numbers_model.specs.declared.Number.TheVariants.{Bad, Is}
+use Rattle.std.specs.Prelude.{Ok, Err}
+use Rattle.outcome.specs.declared.Refusal.TheVariants.{BadToken}
+use Rattle.idx_lines_model.specs.declared.Directive.TheVariants.{Palette}
 
--- one run of bytes of a kind from i on, n long
-module _ (k : Kind) (s : List ℕ) (i n : ℕ) (inside : i ≤ length s) (lead : n ≡ length (front (test k) (take (length s - i) (drop i s)))) where
-  run_long : n ≡ length (front (test k) (drop i s))
+-- one run of bytes that pass from i on, n long
+module _ (p : ℕ → Bool) (s : List ℕ) (i n : ℕ) (inside : i ≤ length s) (lead : n ≡ length (front p (take (length s - i) (drop i s)))) where
+  run_long : n ≡ length (front p (drop i s))
   run_long = rw (take_all (length s - i) (drop i s) (rw (length-drop i s) (omega arith))) at lead
 
   pub run_in : i + n ≤ length s
-  run_in = omega (arith, run_long, front-le (test k) (drop i s), length-drop i s)
+  run_in = omega (arith, run_long, front-le p (drop i s), length-drop i s)
 
-  run_is : take (i + n - i) (drop i s) ≡ front (test k) (drop i s)
-  run_is = let e : i + n - i ≡ length (front (test k) (drop i s)) = omega (arith, run_long) in rw e (take-front (test k) (drop i s))
+  run_is : take (i + n - i) (drop i s) ≡ front p (drop i s)
+  run_is = let e : i + n - i ≡ length (front p (drop i s)) = omega (arith, run_long) in rw e (take-front p (drop i s))
 
-  run-rest : drop (i + n) s ≡ rest (test k) (drop i s)
-  run-rest = sym (drop-drop n i s) ∙ ap (λ (m : ℕ). drop m (drop i s)) run_long ∙ drop-front (test k) (drop i s)
-
-is-parting : test Parting ≡ parting
-unfolding test
-is-parting = refl
-
-is-token : test Token ≡ token_byte
-unfolding test
-is-token = refl
-
--- three stores are the colour's
-pub three_stores : (l : List ℕ) (k v : ℕ) → set (set (set l (3 * k) (v / 65536 % 256)) (3 * k + 1) (v / 256 % 256)) (3 * k + 2) (v % 256) ≡ sets l (3 * k) (rgb v)
-three_stores l k v = rw (add-one (3 * k), add-two (3 * k))
+  run-rest : drop (i + n) s ≡ rest p (drop i s)
+  run-rest = sym (drop-drop n i s) ∙ ap (λ (m : ℕ). drop m (drop i s)) run_long ∙ drop-front p (drop i s)
 
 -- what the tokens say, after others where t
 abbrev pub said_with : Bool → Option (List (Valued ℕ)) → Res (Option Value)
@@ -111,9 +94,6 @@ pub record Colouring (s was now : List ℕ) (k i : ℕ) : Type 0 where
   pub says : (at : ℕ) → said_with false (tokens 16 at s) ≡ said_with (ltb 0 k) (tokens (16 - k) (at + i) (drop i s))
   pub stores : sets was 0 (colours 16 s) ≡ sets now (3 * k) (colours (16 - k) (drop i s))
 
-pub colouring-starts : (s was : List ℕ) → Colouring s was was 0 0
-colouring-starts s was = record { few = omega arith; inside = omega arith; says = λ at. rw (add-zero at); stores = refl }
-
 or-false : (t : Bool) → ok (some (coloured t)) ≡ ok (some (coloured (t || false)))
 or-false true = refl
 or-false false = refl
@@ -128,7 +108,7 @@ good s was now v e f i at = go (tokens 16 at s) refl (f at)
     go none q g = ok-not-refuse g
     go (some ts) q g = sym e ∙ ap (sets was 0) (colours-are 16 at s ts q)
 
-pub colouring_full : (s was now : List ℕ) (k i : ℕ) → Colouring s was now k i → 16 ≤ k → TokensRead s was (line.Coloured true) now
+pub colouring_full : (s was now : List ℕ) (k i : ℕ) → Colouring s was now k i → 16 ≤ k → TokensRead s was (Ok (some (Palette true))) now
 unfolding tokens colours
 colouring_full s was now k i h l =
     let z : 16 - k ≡ 0 = omega arith in
@@ -145,20 +125,20 @@ bad s was i at f = go (tokens 16 at s) f
     go none g = refl
     go (some ts) g = ok-not-refuse (sym g)
 
-module _ (s was now : List ℕ) (k i : ℕ) (h : Colouring s was now k i) (less : k < 16) (a : ℕ) (lead : a ≡ length (front (test Parting) (take (length s - i) (drop i s)))) where
+module _ (s was now : List ℕ) (k i : ℕ) (h : Colouring s was now k i) (less : k < 16) (a : ℕ) (lead : a ≡ length (front parting (take (length s - i) (drop i s)))) where
   next : 16 - k ≡ suc (16 - (k + 1))
   next = omega arith
 
   gap : length (front parting (drop i s)) ≡ a
-  gap = sym (rw is-parting at (run_long Parting s i a h.inside lead))
+  gap = sym (run_long parting s i a h.inside lead)
 
   after-gap : rest parting (drop i s) ≡ drop (i + a) s
-  after-gap = sym (rw is-parting at (run-rest Parting s i a h.inside lead))
+  after-gap = sym (run-rest parting s i a h.inside lead)
 
   pub gap_in : i + a ≤ length s
-  gap_in = run_in Parting s i a h.inside lead
+  gap_in = run_in parting s i a h.inside lead
 
-  pub colouring_ends : length s ≤ i + a → TokensRead s was (line.Coloured (ltb 0 k)) now
+  pub colouring_ends : length s ≤ i + a → TokensRead s was (Ok (some (Palette (ltb 0 k)))) now
   unfolding tokens colours
   colouring_ends l =
       let d : drop (i + a) s ≡ [] = drop_of_length-le s l in
@@ -167,24 +147,24 @@ module _ (s was now : List ℕ) (k i : ℕ) (h : Colouring s was now k i) (less 
         palette = good s was now (coloured (ltb 0 k)) (rw (next, after-gap, d) at h.stores) (λ at. rw (next, after-gap, d) at (h.says at) ∙ sym (or-false (ltb 0 k)));
       }
 
-  module _ (l : i + a < length s) (b : ℕ) (lead' : b ≡ length (front (test Token) (take (length s - (i + a)) (drop (i + a) s)))) where
+  module _ (l : i + a < length s) (b : ℕ) (lead' : b ≡ length (front token_byte (take (length s - (i + a)) (drop (i + a) s)))) where
     in' : i + a ≤ length s
     in' = omega arith
 
     pub token_in : i + a + b ≤ length s
-    token_in = run_in Token s (i + a) b in' lead'
+    token_in = run_in token_byte s (i + a) b in' lead'
 
-    module _ (m : Number) (read : value_in m ≡ hex top_token (take (i + a + b - (i + a)) (drop (i + a) s))) where
+    module _ (m : Option ℕ) (read : m ≡ hex top_token (take (i + a + b - (i + a)) (drop (i + a) s))) where
       tok : take (i + a + b - (i + a)) (drop (i + a) s) ≡ front token_byte (drop (i + a) s)
-      tok = rw is-token at (run_is Token s (i + a) b in' lead')
+      tok = run_is token_byte s (i + a) b in' lead'
 
       long : length (front token_byte (drop (i + a) s)) ≡ b
-      long = sym (rw is-token at (run_long Token s (i + a) b in' lead'))
+      long = sym (run_long token_byte s (i + a) b in' lead')
 
       left : rest token_byte (drop (i + a) s) ≡ drop (i + a + b) s
-      left = sym (rw is-token at (run-rest Token s (i + a) b in' lead'))
+      left = sym (run-rest token_byte s (i + a) b in' lead')
 
-      number : value_in m ≡ hex top_token (front token_byte (drop (i + a) s))
+      number : m ≡ hex top_token (front token_byte (drop (i + a) s))
       number = rw tok at read
 
       step : (n at : ℕ) → tokens (suc n) (at + i) (drop i s)
@@ -205,7 +185,7 @@ module _ (s was now : List ℕ) (k i : ℕ) (h : Colouring s was now k i) (less 
           go x e = rw e
 
       -- a bad token leaves the palette as it was
-      pub colouring_wrong : m ≡ Bad → (kept : List ℕ) → kept ≡ was → TokensRead s was (line.Refused bad_token) kept
+      pub colouring_wrong : m ≡ none → (kept : List ℕ) → kept ≡ was → TokensRead s was (Err BadToken) kept
       colouring_wrong e kept q =
           let f : (at : ℕ) → said_with false (tokens 16 at s) ≡ refuse bad_token = λ at. h.says at ∙ rw (next, step (16 - (k + 1)) at, ← number, e) in
           record {
@@ -213,7 +193,7 @@ module _ (s was now : List ℕ) (k i : ℕ) (h : Colouring s was now k i) (less 
             palette = λ j at. q ∙ bad s was j at (f at);
           }
 
-      pub colouring_more : (v : ℕ) → m ≡ Is v → (new : List ℕ) → new ≡ sets now (3 * k) (rgb v) → Colouring s was new (k + 1) (i + a + b)
+      pub colouring_more : (v : ℕ) → m ≡ some v → (new : List ℕ) → new ≡ sets now (3 * k) (rgb v) → Colouring s was new (k + 1) (i + a + b)
       colouring_more v e new f =
           let z : 3 * k + 3 ≡ 3 * (k + 1) = omega arith in
           let p : ltb 0 (k + 1) ≡ true = lt-ltb 0 (k + 1) (omega arith) in

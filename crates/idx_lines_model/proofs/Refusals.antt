@@ -3,7 +3,7 @@ use Prim.Native.Nat.{ℕ}
 use mathlib.Core.Path.{◌≡◌, refl, sym, subst}
 use mathlib.Core.Bool.{true, false}
 use lib.Dec.{eqb, leb}
-use mathlib.Core.Option.{Option, some, none}
+use Rattle.std.specs.Prelude.{Option, Some as some, None as none}
 use Rattle.outcome.proofs.Laws.{clash}
 use Rattle.outcome.proofs.Numbers.{in_table, check-numbered, need-numbered, and_then-numbered}
 use Rattle.outcome.specs.Outcome.{InTable, need, bad_width, bad_height, bad_token, no_time, no_position, bad_time, long_time, bad_position, large_position, no_cue, refusals, is_one_of, RefusedWith, refuse}

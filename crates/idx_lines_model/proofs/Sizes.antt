@@ -1,7 +1,7 @@
 -- The arms of `parse_size`, over plain variables. Assumes nothing.
 use Prim.Native.Nat.{ℕ, suc, ◌+◌, ◌-◌, ◌≤◌, ◌<◌}
 use mathlib.Core.Path.{◌≡◌, ap, ◌∙◌}
-use mathlib.Core.Option.{some, none}
+use Rattle.std.specs.Prelude.{Option, Some as some, None as none}
 use mathlib.Core.List.{List}
 use native.Mathlib.Omega.{arith}
 use native.Mathlib.Numerals.{add-one}
@@ -11,14 +11,11 @@ use Rattle.outcome.specs.Outcome.{ok, refuse, bad_width, bad_height}
 use Rattle.grammar.specs.Index.{top_side}
 use Rattle.grammar.specs.IndexParts.{unlike, letter_x}
 use Rattle.grammar.specs.Parts.{Part}
-use Rattle.idx_numbers_model.specs.Answers.{value_in}
 use Rattle.idx_numbers_model.specs.Numbers.{unsigned}
 use Rattle.idx_numbers_model.specs.Parts.{part, front, rest, trim, trimmed}
 use Rattle.idx_lines_model.specs.Answers.{lean, sized}
 use Rattle.idx_lines_model.specs.Lines.{halves, size_or}
 use Rattle.idx_numbers_model.proofs.Loops.{take-front, drop-front}
-use Rattle.idx_numbers_model.specs.declared.Number.{Number}
-use Rattle.idx_numbers_model.specs.declared.Number.TheVariants.{Bad, Is}
 
 -- the first byte x of s is at a
 module _ (x : ℕ) (s : List ℕ) (a : ℕ) (lead : a ≡ length (front (unlike x) s)) where
@@ -40,25 +37,25 @@ module _ (s : List ℕ) (a : ℕ) (lead : a ≡ length (front (unlike letter_x) 
   size-nothing h = rw (halves-off letter_x s a lead at h)
 
   module _ (h : a < length s) (l r : List ℕ) (left : l ≡ trimmed (take a s)) (right : r ≡ trimmed (take (length s - (a + 1)) (drop (a + 1) s)))
-      (w : Number) (width : value_in w ≡ unsigned 10 top_side l) where
+      (w : Option ℕ) (width : w ≡ unsigned 10 top_side l) where
     right' : r ≡ trimmed (drop (a + 1) s)
     right' = right ∙ ap trimmed (take_all (length s - (a + 1)) (drop (a + 1) s) (rw (length-drop (a + 1) s) (omega arith)))
 
-    wide : value_in w ≡ unsigned 10 top_side (trimmed (take a s))
+    wide : w ≡ unsigned 10 top_side (trimmed (take a s))
     wide = rw left at width
 
-    pub size-bad_width : w ≡ Bad → refuse bad_width ≡ lean (size_or i (halves letter_x (part at s)))
+    pub size-bad_width : w ≡ none → refuse bad_width ≡ lean (size_or i (halves letter_x (part at s)))
     unfolding trim
     size-bad_width e = rw (halves-at letter_x s a lead at h, ← wide, e)
 
-    module _ (u v : ℕ) (is_width : w ≡ Is u) (n : Number) (height : value_in n ≡ unsigned 10 top_side r) where
-      high : value_in n ≡ unsigned 10 top_side (trimmed (drop (a + 1) s))
+    module _ (u v : ℕ) (is_width : w ≡ some u) (n : Option ℕ) (height : n ≡ unsigned 10 top_side r) where
+      high : n ≡ unsigned 10 top_side (trimmed (drop (a + 1) s))
       high = rw right' at height
 
-      pub size-bad_height : n ≡ Bad → refuse bad_height ≡ lean (size_or i (halves letter_x (part at s)))
+      pub size-bad_height : n ≡ none → refuse bad_height ≡ lean (size_or i (halves letter_x (part at s)))
       unfolding trim
       size-bad_height e = rw (halves-at letter_x s a lead at h, ← wide, is_width, ← high, e)
 
-      pub size-good : n ≡ Is v → ok (some (sized u v)) ≡ lean (size_or i (halves letter_x (part at s)))
+      pub size-good : n ≡ some v → ok (some (sized u v)) ≡ lean (size_or i (halves letter_x (part at s)))
       unfolding trim
       size-good e = rw (halves-at letter_x s a lead at h, ← wide, is_width, ← high, e)

@@ -2,23 +2,23 @@
 use Prim.Native.Nat.{ℕ, ◌+◌, ◌-◌, ◌≤◌, ◌<◌}
 use mathlib.Core.Path.{◌≡◌, refl, sym, ap, ◌∙◌}
 use mathlib.Core.Bool.{Bool, true, false, cond}
-use mathlib.Core.Option.{Option, some, none}
+use Rattle.std.specs.Prelude.{Option, Some as some, None as none, Result, Ok, Err, option_copied}
+use Rattle.std.proofs.Common.{Bor}
 use mathlib.Core.List.{List, [], ◌∷◌}
 use native.Mathlib.Omega.{arith}
 use lib.Dec.{leb}
 use lib.ListN.{length, drop, take, length-drop}
 use lib.Seq.{take_all}
 use lib.IntN.{ℤ}
-use borrow.Author.Tests.{le-leb, lt-leb}
-use Rattle.outcome.specs.Outcome.{Res, ok, refuse, and_then, need, check, bad_time, long_time, bad_position, large_position, no_time, no_position}
+use borrow.Author.Tests.{lt-leb}
+use Rattle.outcome.specs.Outcome.{Res, ok, refuse, number_of, answered, and_then, need, check, bad_time, long_time, bad_position, large_position}
 use Rattle.grammar.specs.Index.{Said, timestamp, start_of, filepos_word, top_stored}
 use Rattle.grammar.specs.IndexNumbers.{Valued}
 use Rattle.grammar.specs.IndexParts.{colon}
 use Rattle.grammar.specs.Parts.{Part}
-use Rattle.idx_numbers_model.specs.Answers.{value_in}
 use Rattle.idx_numbers_model.specs.Numbers.{position_of, or_else}
 use Rattle.idx_numbers_model.specs.Parts.{part, valued, trim, trimmed, split, strip, moved, after, found}
-use Rattle.idx_lines_model.specs.Answers.{bytes_of, held_part, FoundIn, Value, cued, lean, time_at, time_says, position_then, position_with}
+use Rattle.idx_lines_model.specs.Answers.{bytes_of, FoundIn, Value, cued, lean, time_at, position_then, position_with}
 use Rattle.idx_lines_model.specs.Lines.{first_such, last_such, is_filepos, fields, steps, timestamp_at, is_other, parts_at, position_at}
 use Rattle.idx_numbers_model.proofs.Grammar.{never}
 use Rattle.idx_numbers_model.proofs.Steps.{found-is}
@@ -27,19 +27,12 @@ use mir.Syntax.{w64}
 use mir.Val.{to_z, of_z}
 use mir.Facts.{to_z-of_z}
 use Rattle.idx_lines_model.specs.declared.Found.{Found}
-use Rattle.idx_lines_model.specs.declared.Time.{Time}
-use Rattle.idx_lines_model.specs.declared.Time.TheVariants.{Bad as NoTime, Over as OverTime, Is as IsTime}
-use Rattle.idx_numbers_model.specs.declared.Number.{Number}
-use Rattle.idx_numbers_model.specs.declared.Number.TheVariants.{Bad, Is}
+use Rattle.outcome.specs.declared.Refusal.{Refusal}
 
 -- the part behind its bytes
 named : (o : Option Part) (b : List ℕ) → some b ≡ bytes_of o → (q : Part) × (o ≡ some q) × (q.bytes ≡ b)
 named none b e = never (cc)
 named (some q) b e = (q, refl, cc)
-
-no_part : (o : Option Part) → none ≡ bytes_of o → o ≡ none
-no_part none e = refl
-no_part (some q) e = never (cc)
 
 last-passes : (t : Part → Bool) (ps : List Part) (x : Part) → last_such t ps ≡ some x → t x ≡ true
 unfolding last_such
@@ -67,36 +60,22 @@ time-then ps r k g e h = go (fields 4 ps) ∙ ap (λ (x : Res ℤ). and_then x g
 
 -- ---- a timestamp whose parts were found
 module _ (s : List ℕ) (f : Found) (told : FoundIn s f) (i : Part) (at : ℕ) where
-  time : List ℕ
-  time = take (f.time_to - f.time_from) (drop f.time_from s)
+  module _ (time : Bor (List ℕ)) (yes : f.time ≡ some time) where
+    time-of : (q : Part) × (first_such is_other (parts_at at s) ≡ some q) × (q.bytes ≡ time.now)
+    time-of = named (first_such is_other (parts_at at s)) time.now (ap option_copied (sym yes) ∙ told.time at)
 
-  place : List ℕ
-  place = take (f.to - f.from) (drop f.from s)
+    module _ (found_at : Bor (List ℕ)) (has : f.position ≡ some found_at) where
+      place : List ℕ
+      place = found_at.now
 
-  pub stamp-no_time : f.has_time ≡ false → refuse no_time ≡ lean (timestamp_at i (part at s))
-  stamp-no_time e =
-      let q = no_part (first_such is_other (parts_at at s)) (ap (λ (b : Bool). held_part s b f.time_from f.time_to) (sym e) ∙ told.time at) in
-      rw q
-
-  module _ (yes : f.has_time ≡ true) where
-    time-of : (q : Part) × (first_such is_other (parts_at at s) ≡ some q) × (q.bytes ≡ time)
-    unfolding time
-    time-of = named (first_such is_other (parts_at at s)) time (ap (λ (b : Bool). held_part s b f.time_from f.time_to) (sym yes) ∙ told.time at)
-
-    pub stamp-no_position : f.has_position ≡ false → refuse no_position ≡ lean (timestamp_at i (part at s))
-    stamp-no_position e =
-        let q = no_part (last_such is_filepos (parts_at at s)) (ap (λ (b : Bool). held_part s b f.from f.to) (sym e) ∙ told.position at) in
-        rw (time-of.1, q)
-
-    module _ (has : f.has_position ≡ true) where
       place_of : (q : Part) × (last_such is_filepos (parts_at at s) ≡ some q) × (q.bytes ≡ place)
       unfolding place
-      place_of = named (last_such is_filepos (parts_at at s)) place (ap (λ (b : Bool). held_part s b f.from f.to) (sym has) ∙ told.position at)
+      place_of = named (last_such is_filepos (parts_at at s)) found_at.now (ap option_copied (sym has) ∙ told.position at)
 
       starts-it : (strip filepos_word place ≡ some (drop 8 place)) × (8 ≤ length place)
       starts-it = found-is filepos_word place (ap (λ (l : List ℕ). found (strip filepos_word l)) (sym place_of.2) ∙ last-passes is_filepos (parts_at at s) place_of.0 place_of.1)
 
-      pub long_place : 8 ≤ length (take (f.to - f.from) (drop f.from s))
+      pub long_place : 8 ≤ length found_at.now
       unfolding place
       long_place = starts-it.1
 
@@ -130,37 +109,27 @@ module _ (s : List ℕ) (f : Found) (told : FoundIn s f) (i : Part) (at : ℕ) w
           go none = refl
           go (some v) = within v (leb v top_stored)
 
-      module _ (n : Time) (read : (k : ℕ) → time_says n ≡ time_at (split colon k (take (f.time_to - f.time_from) (drop f.time_from s)))) where
-        whole : and_then (time_says n) (λ z. position_with z (drop 8 place)) ≡ lean (timestamp_at i (part at s))
-        unfolding time
+      module _ (n : Result ℤ Refusal) (read : (k : ℕ) → answered n ≡ time_at (split colon k time.now)) where
+        whole : and_then (answered n) (λ z. position_with z (drop 8 place)) ≡ lean (timestamp_at i (part at s))
         whole =
             rw (time-of.1, place_of.1)
-            (sym (time-then (split colon time-of.0.place time-of.0.bytes) (time_says n) (λ fs. position_at i (parts_at at s) fs place_of.0) (λ z. position_with z (drop 8 place))
+            (sym (time-then (split colon time-of.0.place time-of.0.bytes) (answered n) (λ fs. position_at i (parts_at at s) fs place_of.0) (λ z. position_with z (drop 8 place))
             (ap (λ (l : List ℕ). time_at (split colon time-of.0.place l)) time-of.2 ∙ sym (read time-of.0.place))
             (tail-is (parts_at at s))))
 
-        pub stamp-bad_time : n ≡ NoTime → refuse bad_time ≡ lean (timestamp_at i (part at s))
-        stamp-bad_time e = rw e at whole
+        pub stamp-bad_time : (e : Refusal) → n ≡ Err e → refuse (number_of e) ≡ lean (timestamp_at i (part at s))
+        stamp-bad_time e q = rw q at whole
 
-        pub stamp-long_time : n ≡ OverTime → refuse long_time ≡ lean (timestamp_at i (part at s))
-        stamp-long_time e = rw e at whole
-
-        pub stamp-rest : (z : ℤ) → n ≡ IsTime z → (r : Res (Option Value)) → r ≡ position_with (to_z w64 (of_z w64 z)) (drop 8 (take (f.to - f.from) (drop f.from s))) → r ≡ lean (timestamp_at i (part at s))
+        pub stamp-rest : (z : ℤ) → n ≡ Ok z → (r : Res (Option Value)) → r ≡ position_with (to_z w64 (of_z w64 z)) (drop 8 found_at.now) → r ≡ lean (timestamp_at i (part at s))
         unfolding place
         stamp-rest z e r q =
-            let g : to_z w64 (of_z w64 z) ≡ z = to_z-of_z {w = w64} (time-fits (split colon 0 (take (f.time_to - f.time_from) (drop f.time_from s))) z (sym (read 0) ∙ ap time_says e)) in
+            let g : to_z w64 (of_z w64 z) ≡ z = to_z-of_z {w = w64} (time-fits (split colon 0 time.now) z (sym (read 0) ∙ ap answered e)) in
             q ∙ rw g (rw e at whole)
 
 -- ---- the position beside the time
-module _ (y z : ℤ) (as_read : y ≡ z) (p x : List ℕ) (n : Number) (cut : x ≡ trimmed (take (length p - 8) (drop 8 p))) (read : value_in n ≡ position_of x) where
-  read' : value_in n ≡ position_of (trimmed (drop 8 p))
+module _ (y z : ℤ) (as_read : y ≡ z) (p x : List ℕ) (n : Option ℕ) (cut : x ≡ trimmed (take (length p - 8) (drop 8 p))) (read : n ≡ position_of x) where
+  read' : n ≡ position_of (trimmed (drop 8 p))
   read' = rw (cut ∙ ap trimmed (take_all (length p - 8) (drop 8 p) (rw (length-drop 8 p) (omega arith)))) at read
 
-  pub beside_bad : n ≡ Bad → refuse bad_position ≡ position_with z (drop 8 p)
-  beside_bad e = rw (← read', e)
-
-  pub beside_large : (v : ℕ) → n ≡ Is v → top_stored < v → refuse large_position ≡ position_with z (drop 8 p)
+  pub beside_large : (v : ℕ) → n ≡ some v → top_stored < v → refuse large_position ≡ position_with z (drop 8 p)
   beside_large v e h = rw (← read', e, lt-leb v top_stored h)
-
-  pub beside_good : (v : ℕ) → n ≡ Is v → v ≤ top_stored → ok (some (cued y v)) ≡ position_with z (drop 8 p)
-  beside_good v e h = rw (← read', e, le-leb v top_stored h, as_read)

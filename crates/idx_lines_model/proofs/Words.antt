@@ -5,13 +5,13 @@ use lib.Dec.{eqb}
 use Prim.Native.Nat.{ℕ, ◌+◌, ◌-◌, ◌≤◌, ◌<◌}
 use mathlib.Core.Path.{◌≡◌, refl, sym, ap, ◌∙◌, ap₂}
 use mathlib.Core.Bool.{Bool, true, false}
-use mathlib.Core.Option.{Option, some, none}
+use Rattle.std.specs.Prelude.{Option, Some as some, None as none}
 use mathlib.Core.List.{List, [], ◌∷◌, ◌++◌}
 use native.Mathlib.Omega.{arith}
 use lib.ListN.{length, take, drop, length-drop, get_or, take-append-drop}
 use lib.Seq.{take_all, drop-cons}
 use Rattle.outcome.specs.Outcome.{Res, ok, refuse}
-use Rattle.grammar.specs.Index.{Said, size, palette, timestamp, size_word, palette_word, timestamp_word, filepos_word}
+use Rattle.grammar.specs.Index.{Said, size, palette, timestamp, size_word, palette_word, timestamp_word}
 use Rattle.grammar.specs.IndexParts.{letter_x}
 use Rattle.grammar.specs.Parts.{Part}
 use Rattle.idx_numbers_model.specs.Parts.{part, strip, moved, after, found, starts, all}
@@ -20,9 +20,10 @@ use Rattle.grammar.specs.IndexCues.{palette_from}
 use Rattle.idx_lines_model.specs.Answers.{lean, line_says, one_of, palette_after, LineRead, TokensRead}
 use Rattle.idx_lines_model.specs.Lines.{halves, size_or, timestamp_at, line_of}
 use Rattle.idx_numbers_model.proofs.Grammar.{strip-on, strip-is, never}
-use Rattle.idx_numbers_model.proofs.Steps.{found-is, starts-yes, starts-no, small_bytes, word-front, word-whole}
-use Rattle.idx_lines_model.specs.declared.Line.{Line}
-use Rattle.idx_lines_model.specs.declared.Line.TheVariants as line
+use Rattle.idx_numbers_model.proofs.Steps.{found-is, starts-yes, starts-no, small_bytes, word-front}
+use Rattle.std.specs.Prelude.{Result, Ok}
+use Rattle.outcome.specs.declared.Refusal.{Refusal}
+use Rattle.idx_lines_model.specs.declared.Directive.{Directive}
 
 after-yes : (w l : List ℕ) (at : ℕ) → starts w l ≡ true → after w (part at l) ≡ some (part (at + length w) (drop (length w) l))
 after-yes w l at e = ap (moved (at + length w)) (found-is w l e).0
@@ -79,7 +80,7 @@ module _ (l was : List ℕ) where
       go (refuse n) q = refl
 
   module _ (a : Bool) (ea : a ≡ starts timestamp_word l) where
-    pub line-timestamp : a ≡ true → (r : Line) → ((i : Part) (at : ℕ) → line_says r ≡ lean (timestamp_at i (part at (take (length l - 10) (drop 10 l))))) → LineRead l was r was
+    pub line-timestamp : a ≡ true → (r : Result (Option Directive) Refusal) → ((i : Part) (at : ℕ) → line_says r ≡ lean (timestamp_at i (part at (take (length l - 10) (drop 10 l))))) → LineRead l was r was
     unfolding line_of
     line-timestamp f r e =
         let y : starts timestamp_word l ≡ true = sym ea ∙ f in
@@ -89,7 +90,7 @@ module _ (l was : List ℕ) where
         }
 
     module _ (na : a ≡ false) (b : Bool) (eb : b ≡ starts palette_word l) where
-      pub line-palette : b ≡ true → (r : Line) (now : List ℕ) → TokensRead (take (length l - 8) (drop 8 l)) was r now → LineRead l was r now
+      pub line-palette : b ≡ true → (r : Result (Option Directive) Refusal) (now : List ℕ) → TokensRead (take (length l - 8) (drop 8 l)) was r now → LineRead l was r now
       unfolding line_of
       line-palette f r now e =
           let y : starts palette_word l ≡ true = sym eb ∙ f in
@@ -99,7 +100,7 @@ module _ (l was : List ℕ) where
           }
 
       module _ (nb : b ≡ false) (c : Bool) (ec : c ≡ starts size_word l) where
-        pub line-size : c ≡ true → (r : Line) → ((i : Part) (at : ℕ) → line_says r ≡ lean (size_or i (halves letter_x (part at (take (length l - 5) (drop 5 l)))))) → LineRead l was r was
+        pub line-size : c ≡ true → (r : Result (Option Directive) Refusal) → ((i : Part) (at : ℕ) → line_says r ≡ lean (size_or i (halves letter_x (part at (take (length l - 5) (drop 5 l)))))) → LineRead l was r was
         unfolding line_of
         line-size f r e =
             record {
@@ -107,7 +108,7 @@ module _ (l was : List ℕ) where
               palette = same-palette (sym eb ∙ nb);
             }
 
-        pub line_other : c ≡ false → LineRead l was line.Nothing was
+        pub line_other : c ≡ false → LineRead l was (Ok none) was
         unfolding line_of
         line_other f =
             record {
@@ -141,7 +142,3 @@ module _ (l : List ℕ) (fits : 10 ≤ length l) (low : (i : ℕ) → get_or l i
       go true e =
           sym (starts-yes timestamp_word l (drop 10 l) (sym (take-append-drop 8 l) ∙ ap₂ (λ (x y : List ℕ). x ++ y) front-is (rest-is (eqb-true (get_or l 9 0) 58 e))))
       go false e = sym (starts-no timestamp_word l (λ r f. eqb-false (get_or l 9 0) 58 e (ap (λ (x : List ℕ). get_or x 9 0) f)))
-
-pub position-word : (l : List ℕ) → 8 ≤ length l → ((i : ℕ) → get_or l i 0 < 256) → (a : ℕ) → a ≡ lowest (take 8 (drop 0 l)) → (k : ℕ) → k ≡ lowest filepos_word → eqb a k ≡ starts filepos_word l
-unfolding all
-position-word l fits low a is k q = word-whole filepos_word l fits low (small_bytes filepos_word refl) a is k q

@@ -1,7 +1,7 @@
 -- What a trimmed line of the index text says, found: a listed line, nothing, or the number of the refusal (FORMAT 1.2 to 1.8).
 -- What is asked first refuses first. Assumes nothing: these are definitions.
 use Rattle.std.specs.Prelude.{ℕ, zero, suc, ◌+◌, Bool, not, cond, ◌&&◌, List, [], ◌∷◌, map, leb, length, ℤ, pos, ◌*ℤ◌}
-use Rattle.std.proofs.Math.Option.{Option, some, none}
+use Rattle.std.specs.Prelude.{Option, Some as some, None as none}
 use Rattle.outcome.specs.Outcome.{Res, ok, check, need, and_then, bad_width, bad_height, bad_token, no_time, no_position, bad_time, long_time, bad_position, large_position}
 use Rattle.grammar.specs.Parts.{Part}
 use Rattle.grammar.specs.IndexParts.{parting, token_byte, unlike, comma, colon, letter_x}

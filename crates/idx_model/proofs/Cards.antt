@@ -2,7 +2,7 @@
 use Prim.Native.Nat.{ℕ}
 use mathlib.Core.Path.{◌≡◌, refl}
 use mathlib.Core.Bool.{true, false}
-use mathlib.Core.Option.{some, none}
+use Rattle.std.specs.Prelude.{Some as some, None as none}
 use mathlib.Core.List.{[], ◌∷◌}
 use lib.IntN.{pos}
 use Rattle.outcome.specs.Outcome.{ok, refuse, map_res, large_position, short_cues, no_cue}
@@ -45,14 +45,13 @@ large_without_place = refl
 -- no bytes and a place in both buffers: one cue, in greys that no line gives
 pub empty-read :
     idx_answer (idx_with (pos 5 ∷ []) (6 ∷ 7 ∷ []) [])
-    ≡ record {
-      refused = 0;
+    ≡ ok (record {
       width = 0;
       height = 0;
       has_palette = false;
       palette = 0 ∷ 0 ∷ 0 ∷ 17 ∷ 17 ∷ 17 ∷ greys_from 14 2;
       cues = 1;
-    }
+    })
 unfolding idx_answer idx_in greys_from
 empty-read = refl
 
@@ -64,15 +63,13 @@ empty_short = (refl, refl)
 -- cue 0 starts at 0 at the file's front and has no duration; there is no cue 1
 pub empty_picked :
     (cue_answer (pick_of (idx_of []) 0)
-    ≡ record {
-      refused = 0;
+    ≡ ok (record {
       start = micros (pos 0);
       position = 0;
-      has_duration = false;
-      duration = micros (pos 0);
+      duration = none;
       has_palette = false;
       palette = 0 ∷ 0 ∷ 0 ∷ 17 ∷ 17 ∷ 17 ∷ greys_from 14 2;
-    })
+    }))
     × (pick_of (idx_of []) 1 ≡ refuse no_cue)
 unfolding pick_of idx_in cue_answer cue_at duration_of greys_from
 empty_picked = (refl, refl)

@@ -3,15 +3,15 @@
 use Prim.Native.Nat.{ℕ, zero, suc, ◌+◌, ◌≤◌, ◌<◌, min}
 use mathlib.Core.Path.{◌≡◌, refl, sym, ap, ◌∙◌}
 use mathlib.Core.Logic.{⊎_elim, ◌↔◌}
-use mathlib.Core.Option.{Option, some, none}
+use Rattle.std.specs.Prelude.{Option, Some as some, None as none}
 use mathlib.Core.List.{List, [], ◌∷◌, ◌++◌}
 use native.Mathlib.Omega.{arith}
 use native.Mathlib.Nat.{add-zero}
 use lib.ListN.{length, get_or, length-map, get_or-append}
 use lib.Seq.{sets-eq}
 use lib.IntN.{ℤ}
-use Rattle.outcome.specs.Outcome.{Res, ok, refuse, and_then, need, map_res, high_byte, large_position, short_cues, no_cue}
-use Rattle.outcome.proofs.Laws.{ok-not-refuse}
+use Rattle.outcome.specs.Outcome.{Res, ok, refuse, and_then, need, map_res, high_byte, large_position, short_cues, no_cue, IsOk}
+use Rattle.outcome.proofs.Laws.{ok-not-refuse, refuse-injective}
 use Rattle.grammar.specs.Parts.{Part}
 use Rattle.grammar.specs.IndexParts.{line_end, Trimmed}
 use Rattle.grammar.specs.Index.{Said, LargePosition, LinesListed, LargeIn, FirstLarge, greys, ListedText, of_lines, no_bytes, IsText}
@@ -160,61 +160,60 @@ text_large text = (
 )
 
 -- ---- what the contracts say of it
-answer_large : (x : Res ListedText) → ((idx_answer x).refused ≡ large_position) ↔ (x ≡ refuse large_position)
+answer_large : (x : Res ListedText) → (idx_answer x ≡ refuse large_position) ↔ (x ≡ refuse large_position)
 unfolding idx_answer
-answer_large (ok t) = (λ e. absurd (omega (arith, e)), λ e. ok-not-refuse (sym e))
-answer_large (refuse n) = (λ e. ap refuse e, λ e. cc)
+answer_large (ok t) = (λ e. ok-not-refuse (sym e), λ e. ok-not-refuse (sym e))
+answer_large (refuse n) = (λ e. ap refuse (refuse-injective e), λ e. ap refuse (refuse-injective e))
 
 -- with cue buffers there is room for the cues of the lines before it
-pub read-large : (text : List ℕ) (starts : List ℤ) (positions : List ℕ) (r : IdxAnswer)
+pub read-large : (text : List ℕ) (starts : List ℤ) (positions : List ℕ) (r : Res IdxAnswer)
     (starts' : List ℤ) (positions' : List ℕ)
     → IdxRead text starts positions r starts' positions'
-    → (r.refused ≡ large_position)
+    → (r ≡ refuse large_position)
     ↔ ((ls : List Said) × FirstLarge text ls × (length (cues_of_lines ls) ≤ min (length starts) (length positions)))
 read-large text starts positions r starts' positions' d =
     let a = answer_large (idx_with starts positions text) in
-    let e : r.refused ≡ (idx_answer (idx_with starts positions text)).refused =
-    ap (λ (x : IdxAnswer). x.refused) d.answer in (
+    let e : r ≡ idx_answer (idx_with starts positions text) = d.answer in (
       λ f. large_is (some (min (length starts) (length positions))) text (a.0 (sym e ∙ f)),
       λ h. e ∙ a.1 (large-one (some (min (length starts) (length positions))) text h.0 h.1 h.2),
     )
 
 cue-large : (x : Res ListedText) (n : ℕ)
-    → ((cue_answer (pick_of x n)).refused ≡ large_position) ↔ (x ≡ refuse large_position)
+    → (cue_answer (pick_of x n) ≡ refuse large_position) ↔ (x ≡ refuse large_position)
 unfolding pick_of cue_answer
-cue-large (refuse m) n = (λ e. ap refuse e, λ e. cc)
+cue-large (refuse m) n = (λ e. ap refuse (refuse-injective e), λ e. ap refuse (refuse-injective e))
 cue-large (ok t) n = (go (cue_at (cues_of t) n), λ e. ok-not-refuse (sym e))
   where
     picked : Cue → Picked
     picked c =
         record { cue = c; duration = duration_of (cues_of t) n; palette = palette_of t; coloured = has_palette t }
 
-    go : (o : Option Cue) → (cue_answer (and_then (need no_cue o) (λ c. ok (picked c)))).refused ≡ large_position
+    go : (o : Option Cue) → cue_answer (and_then (need no_cue o) (λ c. ok (picked c))) ≡ refuse large_position
         → ok t ≡ refuse large_position
-    go none e = absurd (omega (arith, e))
-    go (some c) e = absurd (omega (arith, e))
+    go none e = absurd (omega (arith, refuse-injective e))
+    go (some c) e = ok-not-refuse (sym e)
 
-pub picked_large : (text : List ℕ) (n : ℕ) (r : CueAnswer) → r ≡ cue_answer (pick_of (idx_of text) n)
-    → (r.refused ≡ large_position) ↔ ((ls : List Said) × FirstLarge text ls)
+pub picked_large : (text : List ℕ) (n : ℕ) (r : Res CueAnswer) → r ≡ cue_answer (pick_of (idx_of text) n)
+    → (r ≡ refuse large_position) ↔ ((ls : List Said) × FirstLarge text ls)
 picked_large text n r d =
     let a = cue-large (idx_of text) n in
-    let e : r.refused ≡ (cue_answer (pick_of (idx_of text) n)).refused = ap (λ (x : CueAnswer). x.refused) d in (
+    let e : r ≡ cue_answer (pick_of (idx_of text) n) = d in (
       λ f. (text_large text).0 (a.0 (sym e ∙ f)),
       λ h. e ∙ a.1 ((text_large text).1 h),
     )
 
 -- a text that has such a line anywhere is refused, and nothing is stored
 pub large_refused : (text : List ℕ) → LargeIn text
-    → (starts : List ℤ) (positions : List ℕ) (r : IdxAnswer) (starts' : List ℤ) (positions' : List ℕ)
+    → (starts : List ℤ) (positions : List ℕ) (r : Res IdxAnswer) (starts' : List ℤ) (positions' : List ℕ)
     → IdxRead text starts positions r starts' positions'
-    → (r.refused ≡ 0 → ⊥) × (starts' ≡ starts) × (positions' ≡ positions)
+    → (IsOk r → ⊥) × (starts' ≡ starts) × (positions' ≡ positions)
 large_refused text h starts positions r starts' positions' d =
     let k = idx_claim text starts positions r starts' positions' d in
-    let f : (r.refused ≡ 0 → ⊥) = λ e. let u = k.exactly_when.0 e in large_text text h u.0 u.1 in
+    let f : (IsOk r → ⊥) = λ e. let u = k.exactly_when.0 e in large_text text h u.0 u.1 in
     (f, (k.as_found f).0, (k.as_found f).1)
 
 pub large_unpicked : (text : List ℕ) → LargeIn text
-    → (n : ℕ) (r : CueAnswer) → r ≡ cue_answer (pick_of (idx_of text) n) → r.refused ≡ 0 → ⊥
+    → (n : ℕ) (r : Res CueAnswer) → r ≡ cue_answer (pick_of (idx_of text) n) → IsOk r → ⊥
 large_unpicked text h n r d e = let u = (cue-claim text n r d).exactly_when.0 e in large_text text h u.0 u.1
 
 -- ---- what is stored: the place of each cue holds its position, which is of 32 bits
@@ -225,19 +224,19 @@ position-there [] n c e = absurd (let z : ◌≡◌ {A = ℕ} 0 1 = cc in omega 
 position-there (d ∷ cs) zero c e = let q : d ≡ c = cc in (omega arith, ap (λ (x : Cue). x.position) q)
 position-there (d ∷ cs) (suc n) c e = let k = position-there cs n c e in (omega (arith, k.0), k.1)
 
-pub held_whole : (text : List ℕ) (starts : List ℤ) (positions : List ℕ) (r : IdxAnswer)
+pub held_whole : (text : List ℕ) (starts : List ℤ) (positions : List ℕ) (r : Res IdxAnswer)
     (starts' : List ℤ) (positions' : List ℕ)
-    → IdxRead text starts positions r starts' positions' → (t : ListedText) → IsText text t → r.refused ≡ 0
+    → IdxRead text starts positions r starts' positions' → (t : ListedText) → IsText text t → (a : IdxAnswer) → r ≡ ok a
     → (n : ℕ) (c : Cue) → cue_at (cues_of t) n ≡ some c → (get_or positions' n 0 ≡ c.position) × (c.position ≤ 4294967295)
-held_whole text starts positions r starts' positions' d t h z n c e =
+held_whole text starts positions r starts' positions' d t h a z n c e =
     let k = idx_claim text starts positions r starts' positions' d in
-    let u = k.exactly_when.0 z in
+    let u = k.exactly_when.0 (rw z tt) in
     let q : u.0 ≡ t = text_unique text u.0 t u.1 h in
     let at = position-there (cues_of t) n c e in
     let room : length (cues_of t) ≤ min (length starts) (length positions) = rw q at u.2 in
     let same : length (positions_of (cues_of t)) ≡ length (cues_of t) = length-map (cues_of t) (λ (x : Cue). x.position) in
     let long : 0 + length (positions_of (cues_of t)) ≤ length positions = omega (arith, room, same) in
-    let whole = (k.same t h z).positions_are ∙ sets-eq (positions_of (cues_of t)) positions 0 long in (
+    let whole = (k.same t h a z).positions_are ∙ sets-eq (positions_of (cues_of t)) positions 0 long in (
       ap (λ (l : List ℕ). get_or l n 0) whole ∙ get_or-append (positions_of (cues_of t)) _ 0 n at.0 ∙ at.1,
       positions-stored text t h n c e,
     )

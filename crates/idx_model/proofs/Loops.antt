@@ -3,16 +3,15 @@ use Prim.Native.Nat.{ℕ, ◌+◌, ◌-◌, ◌≤◌, ◌<◌}
 use mathlib.Core.Path.{◌≡◌, refl, sym, ap, ◌∙◌}
 use mathlib.Core.Bool.{Bool, true, false, cond, ◌&&◌}
 use mathlib.Core.Logic.{⊎_elim}
-use mathlib.Core.Option.{Option, some, none}
+use Rattle.std.specs.Prelude.{Option, Some as some, None as none}
 use mathlib.Core.List.{List, [], ◌∷◌, ◌++◌}
 use native.Mathlib.Omega.{arith}
 use native.Mathlib.Numerals.{add-one}
 use native.Mathlib.Nat.{add-zero}
 use lib.Dec.{ltb}
-use lib.IntN.{ℤ}
 use lib.ListN.{length, get_or, take, drop}
 use lib.Seq.{sets, take-suc, take_all}
-use borrow.Author.Tests.{lt-ltb, le-ltb, eq-eqb, ne_eqb}
+use borrow.Author.Tests.{lt-ltb, le-ltb}
 use Rattle.outcome.specs.Outcome.{Res, ok, refuse, check, and_then, map_res, short_cues, high_byte}
 use Rattle.outcome.proofs.Laws.{ok-injective, refuse-injective, ok-not-refuse, le_or_lt}
 use Rattle.grammar.specs.Parts.{Part}
@@ -24,13 +23,12 @@ use Rattle.idx_numbers_model.proofs.Grammar.{never}
 use Rattle.idx_numbers_model.proofs.Steps.{last-part, next-part, part_in}
 use Rattle.idx_lines_model.specs.Lines.{line_of}
 use Rattle.idx_lines_model.specs.Answers.{Value, value_of, lean, line_says, LineRead, one_of, palette_after}
-use Rattle.idx_lines_model.specs.declared.Line.{Line}
-use Rattle.idx_lines_model.specs.declared.Line.TheVariants as line
+use Rattle.std.specs.Prelude.{Result}
+use Rattle.outcome.specs.declared.Refusal.{Refusal}
+use Rattle.idx_lines_model.specs.declared.Directive.{Directive}
 use Rattle.idx_model.specs.Text.{or_none, cues_in, room_for, lines_in, low_byte, text_in}
-use Rattle.idx_model.specs.Answers.{nothing_seen, see_size, see_palette, see_cue, see_value, see_all, see_line, MeasuredAs}
+use Rattle.idx_model.specs.Answers.{nothing_seen, see_size, see_cue, see_value, see_all, see_line, MeasuredAs}
 use Rattle.idx_model.specs.declared.Seen.{Seen}
-use Rattle.idx_model.specs.declared.Measured.{Measured}
-use Rattle.idx_model.specs.declared.Measured.TheVariants as measured
 
 -- ---- low bytes
 all_snoc : (p : ℕ → Bool) (l : List ℕ) (b : ℕ) → all p (l ++ b ∷ []) ≡ all p l && p b
@@ -71,50 +69,6 @@ module _ (s : List ℕ) (low : Bool) (i : ℕ) (inv : low ≡ all low_byte (take
   pub low-done : length s ≤ i → low ≡ all low_byte s
   low-done h = inv ∙ ap (all low_byte) (take_all i s h)
 
--- ---- what is seen
-pub palette-any : (s : Seen) (any : Bool) → any ≡ true
-    → record { cues = s.cues; width = s.width; height = s.height; has_palette = true; start = s.start; position = s.position; next = s.next } ≡ see_palette s any
-palette-any s any e = rw e
-
-pub palette-none : (s : Seen) (any : Bool) → any ≡ false → s ≡ see_palette s any
-palette-none s any e = rw e
-
-module _ (s : Seen) (z : ℤ) (v cue : ℕ) where
-  pub cue-before : s.cues < cue
-      → record { cues = s.cues + 1; width = s.width; height = s.height; has_palette = s.has_palette; start = s.start; position = s.position; next = s.next } ≡ see_cue cue s z v
-  cue-before h = rw (ne_eqb s.cues cue (λ e. omega arith), ne_eqb s.cues (cue + 1) (λ e. omega arith))
-
-  pub cue-met : s.cues ≡ cue → (y : ℤ) → y ≡ z
-      → record { cues = s.cues + 1; width = s.width; height = s.height; has_palette = s.has_palette; start = y; position = v; next = s.next } ≡ see_cue cue s z v
-  cue-met h y g = rw (eq-eqb s.cues cue h, ne_eqb s.cues (cue + 1) (λ e. omega arith), g)
-
-  pub cue-next : cue ≤ s.cues → (s.cues ≡ cue → ⊥) → s.cues - cue ≡ 1 → (y : ℤ) → y ≡ z
-      → record { cues = s.cues + 1; width = s.width; height = s.height; has_palette = s.has_palette; start = s.start; position = s.position; next = y } ≡ see_cue cue s z v
-  cue-next h n e y g = rw (ne_eqb s.cues cue n, eq-eqb s.cues (cue + 1) (omega arith), g)
-
-  pub cue-after : cue ≤ s.cues → (s.cues ≡ cue → ⊥) → (s.cues - cue ≡ 1 → ⊥)
-      → record { cues = s.cues + 1; width = s.width; height = s.height; has_palette = s.has_palette; start = s.start; position = s.position; next = s.next } ≡ see_cue cue s z v
-  cue-after h n e = rw (ne_eqb s.cues cue n, ne_eqb s.cues (cue + 1) (λ q. e (omega arith)))
-
-module _ (cue room : ℕ) (s : Seen) (l : Line) where
-  pub saw_refused : (n : ℕ) → l ≡ line.Refused n → measured.Refused n ≡ see_line cue room s (line_says l)
-  saw_refused n e = rw e
-
-  pub saw-nothing : l ≡ line.Nothing → measured.Saw s ≡ see_line cue room s (line_says l)
-  saw-nothing e = rw e
-
-  pub saw-size : (w h : ℕ) → l ≡ line.Sized w h → (r : Seen) → r ≡ see_size s w h → measured.Saw r ≡ see_line cue room s (line_says l)
-  saw-size w h e r f = rw (e, f)
-
-  pub saw-palette : (any : Bool) → l ≡ line.Coloured any → (r : Seen) → r ≡ see_palette s any → measured.Saw r ≡ see_line cue room s (line_says l)
-  saw-palette any e r f = rw (e, f)
-
-  pub saw_full : (z : ℤ) (v : ℕ) → l ≡ line.Cue z v → room ≤ s.cues → measured.Refused short_cues ≡ see_line cue room s (line_says l)
-  saw_full z v e h = rw (e, le-ltb s.cues room h)
-
-  pub saw-cue : (z y : ℤ) (v : ℕ) → l ≡ line.Cue z v → y ≡ z → s.cues < room → (r : Seen) → r ≡ see_cue cue s y v → measured.Saw r ≡ see_line cue room s (line_says l)
-  saw-cue z y v e g h r f = rw (e, lt-ltb s.cues room h, f, g)
-
 -- ---- what all lines tell: what is seen, and the palette
 pub record Whole : Type 0 where
   pub seen : Seen
@@ -139,7 +93,7 @@ module _ (cue room : ℕ) (seen : Seen) (was : List ℕ) (ps : List Part) where
       map_res (tell_all cue (whole seen was))
       (and_then q (λ o. check (room_for (some room) seen.cues o) short_cues (and_then (lines_in (some room) (seen.cues + cues_in o) ps) (λ ls. ok (or_none o ls)))))
 
-  refused-at : (q : Res (Option Said)) (n : ℕ) → see_line cue room seen (lean q) ≡ measured.Refused n → from q ≡ refuse n
+  refused-at : (q : Res (Option Said)) (n : ℕ) → see_line cue room seen (lean q) ≡ refuse n → from q ≡ refuse n
   unfolding from
   refused-at (refuse m) n e = let f : m ≡ n = cc in ap refuse f
   refused-at (ok none) n e = never (cc)
@@ -147,12 +101,12 @@ module _ (cue room : ℕ) (seen : Seen) (was : List ℕ) (ps : List Part) where
   refused-at (ok (some (palette l ts))) n e = never (cc)
   refused-at (ok (some (timestamp l qs fs v))) n e = go (ltb seen.cues room) e
     where
-      go : (t : Bool) → cond t (measured.Saw (see_cue cue seen (start_of fs) v.value)) (measured.Refused short_cues) ≡ measured.Refused n
+      go : (t : Bool) → cond t (ok (see_cue cue seen (start_of fs) v.value)) (refuse short_cues) ≡ refuse n
           → map_res (tell_all cue (whole seen was)) (check t short_cues (and_then (lines_in (some room) (seen.cues + 1) ps) (λ ls. ok (or_none (some (timestamp l qs fs v)) ls)))) ≡ refuse n
       go true f = never (cc)
       go false f = let g : short_cues ≡ n = cc in ap refuse g
 
-  saw-at : (q : Res (Option Said)) (s : Seen) (now : List ℕ) → see_line cue room seen (lean q) ≡ measured.Saw s
+  saw-at : (q : Res (Option Said)) (s : Seen) (now : List ℕ) → see_line cue room seen (lean q) ≡ ok s
       → ((o : Option Said) → q ≡ ok o → now ≡ palette_from was (one_of o))
       → from q ≡ map_res (tell_all cue (whole s now)) (lines_in (some room) s.cues ps)
   unfolding from see_all palette_from
@@ -178,7 +132,7 @@ module _ (cue room : ℕ) (seen : Seen) (was : List ℕ) (ps : List Part) where
           (joined cue (whole seen was) (whole (see_value cue seen (value_of (palette l ts))) (sets was 0 (colours_of ts))) (some (palette l ts)) (λ ls. refl) (lines_in (some room) seen.cues ps))
   saw-at (ok (some (timestamp l qs fs v))) s now e h = go (ltb seen.cues room) e
     where
-      go : (t : Bool) → cond t (measured.Saw (see_cue cue seen (start_of fs) v.value)) (measured.Refused short_cues) ≡ measured.Saw s
+      go : (t : Bool) → cond t (ok (see_cue cue seen (start_of fs) v.value)) (refuse short_cues) ≡ ok s
           → map_res (tell_all cue (whole seen was)) (check t short_cues (and_then (lines_in (some room) (seen.cues + 1) ps) (λ ls. ok (or_none (some (timestamp l qs fs v)) ls))))
           ≡ map_res (tell_all cue (whole s now)) (lines_in (some room) s.cues ps)
       go true f =
@@ -200,16 +154,16 @@ pub measuring-starts : (text : List ℕ) (room cue : ℕ) (was : List ℕ) (s : 
 measuring-starts text room cue was s e = record { inside = omega arith; goes = rw e }
 
 -- an answer from what all lines tell
-answered : (cue : ℕ) (was : List ℕ) (r : Res (List Said)) (n : ℕ) → map_res (tell_all cue (whole nothing_seen was)) r ≡ refuse n → (now : List ℕ) → MeasuredAs cue was r (measured.Refused n) now
+answered : (cue : ℕ) (was : List ℕ) (r : Res (List Said)) (n : ℕ) → map_res (tell_all cue (whole nothing_seen was)) r ≡ refuse n → (now : List ℕ) → MeasuredAs cue was r (refuse n) now
 answered cue was (ok ls) n e now = ok-not-refuse (sym e)
-answered cue was (refuse m) n e now = record { says = ap measured.Refused (sym (refuse-injective e)); palette = λ ls f. ok-not-refuse f }
+answered cue was (refuse m) n e now = record { says = ap refuse (sym (refuse-injective e)); palette = λ ls f. ok-not-refuse f }
 
-accepted : (cue : ℕ) (was : List ℕ) (r : Res (List Said)) (s : Seen) (now : List ℕ) → map_res (tell_all cue (whole nothing_seen was)) r ≡ ok (whole s now) → MeasuredAs cue was r (measured.Saw s) now
+accepted : (cue : ℕ) (was : List ℕ) (r : Res (List Said)) (s : Seen) (now : List ℕ) → map_res (tell_all cue (whole nothing_seen was)) r ≡ ok (whole s now) → MeasuredAs cue was r (ok s) now
 accepted cue was (refuse m) s now e = ok-not-refuse e
 accepted cue was (ok ls) s now e =
     let q : tell_all cue (whole nothing_seen was) ls ≡ whole s now = ok-injective e in
     record {
-      says = ap (λ (w : Whole). measured.Saw w.seen) (sym q);
+      says = ap (λ (w : Whole). ok w.seen) (sym q);
       palette = λ ms f. ap (λ (w : Whole). w.palette) (sym q) ∙ ap (palette_from was) (ok-injective f);
     }
 
@@ -223,7 +177,7 @@ module _ (text : List ℕ) (i n : ℕ) (inside : i ≤ length text) (lead : n �
     bytes_of at = ap (part (trim (part at (take (i + n - i) (drop i text)))).place) (sym cut)
 
     module _ (room cue : ℕ) (was : List ℕ) (seen : Seen) (now : List ℕ) (so_far : Measuring text room cue was i seen now)
-        (x : Line) (new : List ℕ) (read : LineRead l now x new) (r : Measured) (told : r ≡ see_line cue room seen (line_says x)) where
+        (x : Result (Option Directive) Refusal) (new : List ℕ) (read : LineRead l now x new) (r : Res Seen) (told : r ≡ see_line cue room seen (line_says x)) where
       says : (at : ℕ) → see_line cue room seen (lean (line_of (trim (part at (take (i + n - i) (drop i text)))))) ≡ r
       says at = ap (λ (p : Part). see_line cue room seen (lean (line_of p))) (bytes_of at) ∙ ap (see_line cue room seen) (sym (read.says (trim (part at (take (i + n - i) (drop i text)))).place)) ∙ sym told
 
@@ -231,17 +185,17 @@ module _ (text : List ℕ) (i n : ℕ) (inside : i ≤ length text) (lead : n �
       hues at o e = read.palette (trim (part at (take (i + n - i) (drop i text)))).place ∙ ap (palette_after now) (ap line_of (sym (bytes_of at)) ∙ e)
 
       -- the line at i, and the lines ps after it
-      head-refused : (ps : List Part) → split line_end (0 + i) (drop i text) ≡ part (0 + i) (take (i + n - i) (drop i text)) ∷ ps → (k : ℕ) → r ≡ measured.Refused k
+      head-refused : (ps : List Part) → split line_end (0 + i) (drop i text) ≡ part (0 + i) (take (i + n - i) (drop i text)) ∷ ps → (k : ℕ) → r ≡ refuse k
           → map_res (tell_all cue (whole seen now)) (lines_at room seen.cues i text) ≡ refuse k
       unfolding lines_in from
       head-refused ps e k f = rw e (refused-at cue room seen now ps (line_of (trim (part (0 + i) (take (i + n - i) (drop i text))))) k (says (0 + i) ∙ f))
 
-      head-saw : (ps : List Part) → split line_end (0 + i) (drop i text) ≡ part (0 + i) (take (i + n - i) (drop i text)) ∷ ps → (s : Seen) → r ≡ measured.Saw s
+      head-saw : (ps : List Part) → split line_end (0 + i) (drop i text) ≡ part (0 + i) (take (i + n - i) (drop i text)) ∷ ps → (s : Seen) → r ≡ ok s
           → map_res (tell_all cue (whole seen now)) (lines_at room seen.cues i text) ≡ map_res (tell_all cue (whole s new)) (lines_in (some room) s.cues ps)
       unfolding lines_in from
       head-saw ps e s f = rw e (saw-at cue room seen now ps (line_of (trim (part (0 + i) (take (i + n - i) (drop i text))))) s new (says (0 + i) ∙ f) (hues (0 + i)))
 
-      pub measuring_refused : (k : ℕ) → r ≡ measured.Refused k → MeasuredAs cue was (lines_in (some room) 0 (split line_end 0 text)) (measured.Refused k) new
+      pub measuring_refused : (k : ℕ) → r ≡ refuse k → MeasuredAs cue was (lines_in (some room) 0 (split line_end 0 text)) (refuse k) new
       measuring_refused k e =
           answered cue was (lines_in (some room) 0 (split line_end 0 text)) k
           (so_far.goes
@@ -250,12 +204,12 @@ module _ (text : List ℕ) (i n : ℕ) (inside : i ≤ length text) (lead : n �
           (le_or_lt (length text) (i + n)))
           new
 
-      pub measuring_done : (s : Seen) → r ≡ measured.Saw s → length text ≤ i + n → MeasuredAs cue was (lines_in (some room) 0 (split line_end 0 text)) (measured.Saw s) new
+      pub measuring_done : (s : Seen) → r ≡ ok s → length text ≤ i + n → MeasuredAs cue was (lines_in (some room) 0 (split line_end 0 text)) (ok s) new
       unfolding lines_in see_all palette_from
       measuring_done s e h =
           accepted cue was (lines_in (some room) 0 (split line_end 0 text)) s new (so_far.goes ∙ head-saw [] (last-part line_end text i n inside lead (0 + i) h) s e)
 
-      pub measuring-next : (s : Seen) → r ≡ measured.Saw s → i + n < length text → Measuring text room cue was (i + n + 1) s new
+      pub measuring-next : (s : Seen) → r ≡ ok s → i + n < length text → Measuring text room cue was (i + n + 1) s new
       measuring-next s e h = record {
         inside = omega arith;
         goes = so_far.goes ∙ head-saw (split line_end (0 + (i + n + 1)) (drop (i + n + 1) text)) (next-part line_end text i n inside lead 0 h) s e;
@@ -263,10 +217,10 @@ module _ (text : List ℕ) (i n : ℕ) (inside : i ≤ length text) (lead : n �
 
 -- ---- the whole text
 module _ (text : List ℕ) (r : Bool) (told : r ≡ all low_byte text) (room cue : ℕ) (was : List ℕ) where
-  pub text_high : r ≡ false → MeasuredAs cue was (text_in (some room) text) (measured.Refused high_byte) was
+  pub text_high : r ≡ false → MeasuredAs cue was (text_in (some room) text) (refuse high_byte) was
   unfolding text_in
   text_high e = let q : all low_byte text ≡ false = sym told ∙ e in rw q (answered cue was (refuse high_byte) high_byte refl was)
 
-  pub text_low : r ≡ true → (a : Measured) (now : List ℕ) → MeasuredAs cue was (lines_in (some room) 0 (split line_end 0 text)) a now → MeasuredAs cue was (text_in (some room) text) a now
+  pub text_low : r ≡ true → (a : Res Seen) (now : List ℕ) → MeasuredAs cue was (lines_in (some room) 0 (split line_end 0 text)) a now → MeasuredAs cue was (text_in (some room) text) a now
   unfolding text_in
   text_low e a now h = let q : all low_byte text ≡ true = sym told ∙ e in rw q h

@@ -19,27 +19,28 @@ use Rattle.idx_numbers_model.proofs.Grammar.{split-is}
 use Rattle.clock_model.specs.Answers.{micros}
 use Rattle.idx_model.specs.Text.{idx_in, idx_of}
 use Rattle.idx_model.specs.Answers.{idx_answer, idx_with, IdxRead, pick_of, cue_answer}
+use Rattle.std.specs.Prelude.{None as none}
 use Rattle.idx_model.specs.declared.IdxAnswer.{IdxAnswer}
 use Rattle.idx_model.specs.declared.CueAnswer.{CueAnswer}
 use Rattle.idx_model.proofs.Grammar.{text_iff, room_iff, text_unique}
 
 -- ---- the text of no bytes
-module _ (starts : List ℤ) (positions : List ℕ) (r : IdxAnswer) (starts' : List ℤ) (positions' : List ℕ)
+module _ (starts : List ℤ) (positions : List ℕ) (r : Res IdxAnswer) (starts' : List ℤ) (positions' : List ℕ)
     (h : IdxRead [] starts positions r starts' positions') where
   -- with no place in one of the buffers it is refused, and both are as found
   pub read_short : min (length starts) (length positions) ≡ 0
-      → (r.refused ≡ short_cues) × (starts' ≡ starts) × (positions' ≡ positions)
+      → (r ≡ refuse short_cues) × (starts' ≡ starts) × (positions' ≡ positions)
   unfolding idx_in idx_answer
   read_short e =
       let q : idx_with starts positions [] ≡ refuse short_cues = rw e in (
-        ap (λ (a : IdxAnswer). a.refused) (h.answer ∙ ap idx_answer q),
+        h.answer ∙ ap idx_answer q,
         rw q at h.stored.starts_are,
         rw q at h.stored.positions_are,
       )
 
   -- with one in each it is one cue, stored in the first of them
   pub read-stored : 0 < min (length starts) (length positions)
-      → (r ≡ record { refused = 0; width = 0; height = 0; has_palette = false; palette = greys; cues = 1 })
+      → (r ≡ ok (record { width = 0; height = 0; has_palette = false; palette = greys; cues = 1 }))
       × (starts' ≡ set starts 0 (pos 0)) × (positions' ≡ set positions 0 0)
   unfolding idx_in idx_answer
   read-stored k =
@@ -47,24 +48,23 @@ module _ (starts : List ℤ) (positions : List ℕ) (r : IdxAnswer) (starts' : L
       rw (lt-ltb 0 (min (length starts) (length positions)) k) in
       (h.answer ∙ ap idx_answer q, rw q at h.stored.starts_are, rw q at h.stored.positions_are)
 
-pub picked_first : (r : CueAnswer) → r ≡ cue_answer (pick_of (idx_of []) 0)
+pub picked_first : (r : Res CueAnswer) → r ≡ cue_answer (pick_of (idx_of []) 0)
     → r
-    ≡ record {
-      refused = 0;
+    ≡ ok
+    (record {
       start = micros (pos 0);
       position = 0;
-      has_duration = false;
-      duration = micros (pos 0);
+      duration = none;
       has_palette = false;
       palette = greys;
-    }
+    })
 unfolding pick_of idx_in cue_at duration_of cue_answer
 picked_first r h = h
 
-pub picked_other : (n : ℕ) (r : CueAnswer) → r ≡ cue_answer (pick_of (idx_of []) n) → 0 < n → r.refused ≡ no_cue
+pub picked_other : (n : ℕ) (r : Res CueAnswer) → r ≡ cue_answer (pick_of (idx_of []) n) → 0 < n → r ≡ refuse no_cue
 unfolding pick_of idx_in cue_at cue_answer
 picked_other zero r h k = absurd (omega arith)
-picked_other (suc n) r h k = ap (λ (a : CueAnswer). a.refused) h
+picked_other (suc n) r h k = h
 
 -- ---- blanks alone say nothing: no cue, and black
 pub blanks-listed : (text : List ℕ) → All blank text → (text ≡ [] → ⊥) → IsText text (of_lines [])
@@ -88,9 +88,9 @@ module _ (text : List ℕ) (h : All blank text) (f : text ≡ [] → ⊥) where
   unfolding cues_of_lines
   blanks_cueless t k = ap cues_of (text_unique text t (of_lines []) k (blanks-listed text h f))
 
-  pub blanks-read : (starts : List ℤ) (positions : List ℕ) (r : IdxAnswer) (starts' : List ℤ) (positions' : List ℕ)
+  pub blanks-read : (starts : List ℤ) (positions : List ℕ) (r : Res IdxAnswer) (starts' : List ℤ) (positions' : List ℕ)
       → IdxRead text starts positions r starts' positions'
-      → (r ≡ record { refused = 0; width = 0; height = 0; has_palette = false; palette = replicate 48 0; cues = 0 })
+      → (r ≡ ok (record { width = 0; height = 0; has_palette = false; palette = replicate 48 0; cues = 0 }))
       × (starts' ≡ starts) × (positions' ≡ positions)
   unfolding cues_of_lines palette_from lines_have_palette size_from idx_answer
   blanks-read starts positions r starts' positions' d =
@@ -98,8 +98,8 @@ module _ (text : List ℕ) (h : All blank text) (f : text ≡ [] → ⊥) where
       (room_iff (min (length starts) (length positions)) text (of_lines [])).1 (blanks-listed text h f, omega arith) in
       (d.answer ∙ ap idx_answer q, rw q at d.stored.starts_are, rw q at d.stored.positions_are)
 
-  pub blanks_picked : (n : ℕ) (r : CueAnswer) → r ≡ cue_answer (pick_of (idx_of text) n) → r.refused ≡ no_cue
+  pub blanks_picked : (n : ℕ) (r : Res CueAnswer) → r ≡ cue_answer (pick_of (idx_of text) n) → r ≡ refuse no_cue
   unfolding pick_of cue_answer cues_of_lines cue_at
   blanks_picked n r d =
       let q : idx_of text ≡ ok (of_lines []) = (text_iff text (of_lines [])).1 (blanks-listed text h f) in
-      ap (λ (a : CueAnswer). a.refused) (d ∙ ap (λ (x : Res ListedText). cue_answer (pick_of x n)) q)
+      d ∙ ap (λ (x : Res ListedText). cue_answer (pick_of x n)) q

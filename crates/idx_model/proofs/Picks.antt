@@ -2,15 +2,16 @@
 use Prim.Native.Nat.{ℕ, zero, suc, ◌+◌, ◌-◌, ◌≤◌, ◌<◌}
 use mathlib.Core.Path.{◌≡◌, refl, sym, ap, ◌∙◌}
 use mathlib.Core.Bool.{Bool, true, false, cond, ◌||◌}
-use mathlib.Core.Option.{Option, some, none}
+use Rattle.std.specs.Prelude.{Option, Some as some, None as none}
+use Rattle.std.specs.Bool.{then_some}
 use mathlib.Core.List.{List, [], ◌∷◌}
 use native.Mathlib.Omega.{arith}
 use native.Mathlib.Numerals.{add-one}
 use native.Mathlib.Nat.{add-zero, zero-add}
-use lib.Dec.{eqb}
+use lib.Dec.{eqb, ltb}
 use lib.IntN.{ℤ, pos, ◌-ℤ◌}
 use lib.ListN.{length}
-use borrow.Author.Tests.{eq-eqb, ne_eqb, lt-ltb}
+use borrow.Author.Tests.{eq-eqb, ne_eqb, lt-ltb, ltb-true, ltb-false}
 use Rattle.outcome.specs.Outcome.{Res, ok, refuse, check, and_then, no_cue, short_cues}
 use Rattle.grammar.specs.Parts.{Part}
 use Rattle.grammar.specs.IndexParts.{line_end}
@@ -21,6 +22,7 @@ use Rattle.idx_numbers_model.specs.Parts.{part, push, trim, split}
 use Rattle.idx_numbers_model.proofs.Grammar.{never}
 use Rattle.idx_lines_model.specs.Lines.{line_of}
 use Rattle.clock_model.specs.Answers.{micros}
+use Rattle.clock_model.specs.declared.Micros.{Micros}
 use Rattle.idx_model.specs.Text.{or_none, cues_in, room_for, lines_in, text_in, idx_in, idx_of}
 use Rattle.idx_model.specs.Answers.{nothing_seen, see_all, seen_of, idx_answer, pick_of, cue_answer}
 use Rattle.idx_model.specs.declared.Seen.{Seen}
@@ -174,27 +176,25 @@ module _ (cue : ℕ) (t : ListedText) (seen : Seen) (all : seen ≡ seen_of cue 
   size_is_lem = ap (λ (s : Seen). cues.size_is s.width s.height) all ∙ seen_size cue t
 
   pub idx_answer_lem :
-      record {
-        refused = 0;
+      ok (record {
         width = seen.width;
         height = seen.height;
         has_palette = seen.has_palette;
         palette = p;
         cues = seen.cues;
-      }
+      })
       ≡ idx_answer (ok t)
   unfolding idx_answer
-  idx_answer_lem = λ i. record {
-    refused = 0;
+  idx_answer_lem = λ i. ok (record {
     width = ap (λ (s : cues.Size). s.width) size_is_lem i;
     height = ap (λ (s : cues.Size). s.height) size_is_lem i;
     has_palette = coloured-is i;
     palette = hues i;
     cues = cues-are i;
-  }
+  })
 
-  pub pick-none : seen.cues ≤ cue → cue_answer (refuse no_cue) ≡ cue_answer (pick_of (ok t) cue)
-  unfolding pick_of
+  pub pick-none : seen.cues ≤ cue → refuse no_cue ≡ cue_answer (pick_of (ok t) cue)
+  unfolding pick_of cue_answer
   pick-none h = rw (cue-out (cues_of t) cue (omega (arith, cues-are)))
 
   start_is : (c : Cue) → cue_at (cues_of t) cue ≡ some c → seen.start ≡ c.start
@@ -215,42 +215,36 @@ module _ (cue : ℕ) (t : ListedText) (seen : Seen) (all : seen ≡ seen_of cue 
       ∙ ap (λ (k : ℕ). pick_from (λ x. x.start) 0 k (pos 0) (cues_of t)) (sym (zero-add (cue + 1)))
       ∙ pick_at (λ x. x.start) (cues_of t) 0 (cue + 1) (pos 0) d e
 
-  pub pick-last : cue < seen.cues → seen.cues - cue ≡ 1 → (y : ℤ) → y ≡ seen.start
-      → record {
-        refused = 0;
+  pick-last : cue < seen.cues → seen.cues - cue ≡ 1 → (y : ℤ) → y ≡ seen.start
+      → ok (record {
         start = micros y;
         position = seen.position;
-        has_duration = false;
-        duration = micros (pos 0);
+        duration = none;
         has_palette = seen.has_palette;
         palette = p;
-      }
+      })
       ≡ cue_answer (pick_of (ok t) cue)
   unfolding pick_of cue_answer
   pick-last h l y g =
       let c = cue-in (cues_of t) cue (omega (arith, cues-are)) in
       rw (c.1, last-duration (cues_of t) cue (omega (arith, cues-are)))
-      (λ i. record {
-        refused = 0;
+      (λ i. ok (record {
         start = micros ((g ∙ start_is c.0 c.1) i);
         position = position-is c.0 c.1 i;
-        has_duration = false;
-        duration = micros (pos 0);
+        duration = none;
         has_palette = coloured-is i;
         palette = hues i;
-      })
+      }))
 
-  pub pick_next : cue < seen.cues → (seen.cues - cue ≡ 1 → ⊥) → (y : ℤ) → y ≡ seen.start
+  pick_next : cue < seen.cues → (seen.cues - cue ≡ 1 → ⊥) → (y : ℤ) → y ≡ seen.start
       → (v : ℤ) → v ≡ pos (clip (seen.next -ℤ seen.start))
-      → record {
-        refused = 0;
+      → ok (record {
         start = micros y;
         position = seen.position;
-        has_duration = true;
-        duration = micros v;
+        duration = some (micros v);
         has_palette = seen.has_palette;
         palette = p;
-      }
+      })
       ≡ cue_answer (pick_of (ok t) cue)
   unfolding pick_of cue_answer
   pick_next h n y g v f =
@@ -262,15 +256,37 @@ module _ (cue : ℕ) (t : ListedText) (seen : Seen) (all : seen ≡ seen_of cue 
       ∙ ap (λ (x : ℤ). pos (clip (d.0.start -ℤ x))) (start_is c.0 c.1) in
       let e = ap (cue_at (cues_of t)) (sym (add-one cue)) ∙ d.1 in
       rw (c.1, next-duration (cues_of t) cue c.0 d.0 c.1 e)
-      (λ i. record {
-        refused = 0;
+      (λ i. ok (record {
         start = micros ((g ∙ start_is c.0 c.1) i);
         position = position-is c.0 c.1 i;
-        has_duration = true;
-        duration = micros (s i);
+        duration = some (micros (s i));
         has_palette = coloured-is i;
         palette = hues i;
+      }))
+
+  pub pick_there : cue < seen.cues → (y : ℤ) → y ≡ seen.start → (v : ℤ) → v ≡ pos (clip (seen.next -ℤ seen.start))
+      → (o : Option Micros) → o ≡ then_some (ltb 1 (seen.cues - cue)) (micros v)
+      → ok (record {
+        start = micros y;
+        position = seen.position;
+        duration = o;
+        has_palette = seen.has_palette;
+        palette = p;
       })
+      ≡ cue_answer (pick_of (ok t) cue)
+  pick_there h y g v f o d = go (ltb 1 (seen.cues - cue)) refl d
+    where
+      go : (b : Bool) → ltb 1 (seen.cues - cue) ≡ b → o ≡ then_some b (micros v)
+          → ok (record {
+            start = micros y;
+            position = seen.position;
+            duration = o;
+            has_palette = seen.has_palette;
+            palette = p;
+          })
+          ≡ cue_answer (pick_of (ok t) cue)
+      go true e q = rw q (pick_next h (λ k. omega (arith, ltb-true 1 (seen.cues - cue) e)) y g v f)
+      go false e q = rw q (pick-last h (omega (arith, ltb-false 1 (seen.cues - cue) e)) y g)
 
 -- ---- room for more cues than there are lines is no bound
 split-few : (sep at : ℕ) (s : List ℕ) → length (split sep at s) ≤ suc (length s)

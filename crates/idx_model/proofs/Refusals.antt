@@ -2,7 +2,7 @@
 -- after these. Assumes nothing.
 use Prim.Native.Nat.{ℕ, ◌+◌}
 use mathlib.Core.Path.{◌≡◌, refl, subst}
-use mathlib.Core.Option.{Option, some, none}
+use Rattle.std.specs.Prelude.{Option, Some as some, None as none}
 use mathlib.Core.List.{List, [], ◌∷◌, ◌++◌}
 use Rattle.outcome.proofs.Numbers.{in_table, check-numbered, need-numbered, and_then-numbered, map_res-numbered, refused_also}
 use Rattle.outcome.specs.Outcome.{InTable, ok, refuse, need, high_byte, short_cues, no_cue, RefusedWith, Numbered, bad_width, bad_token, bad_position, large_position}

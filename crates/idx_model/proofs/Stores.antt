@@ -3,7 +3,7 @@ use Prim.Native.Nat.{ℕ, suc, ◌+◌, ◌-◌, ◌≤◌, ◌<◌, min}
 use mathlib.Core.Path.{◌≡◌, refl, sym, ap, ◌∙◌, subst}
 use mathlib.Core.Bool.{true}
 use mathlib.Core.Logic.{⊎_elim}
-use mathlib.Core.Option.{Option, some, none}
+use Rattle.std.specs.Prelude.{Option, Some as some, None as none}
 use mathlib.Core.List.{List, [], ◌∷◌, ◌++◌}
 use native.Mathlib.Omega.{arith}
 use native.Mathlib.Nat.{add-zero}
@@ -22,8 +22,10 @@ use Rattle.idx_numbers_model.proofs.Grammar.{never}
 use Rattle.idx_numbers_model.proofs.Steps.{last-part, next-part}
 use Rattle.idx_lines_model.specs.Lines.{line_of}
 use Rattle.idx_lines_model.specs.Answers.{mapped, lean, line_says, LineRead}
-use Rattle.idx_lines_model.specs.declared.Line.{Line}
-use Rattle.idx_lines_model.specs.declared.Line.TheVariants as line
+use Rattle.std.specs.Prelude.{Result, Ok, Err}
+use Rattle.outcome.specs.declared.Refusal.{Refusal}
+use Rattle.idx_lines_model.specs.declared.Directive.{Directive}
+use Rattle.idx_lines_model.specs.declared.Directive.TheVariants as directive
 use Rattle.idx_model.specs.Text.{or_none, cues_in, room_for, lines_in, low_byte, text_in}
 use Rattle.idx_model.specs.Answers.{starts_of, positions_of, CueFits, line_starts, line_positions, CueStored, CuesStored, lines_with}
 
@@ -40,32 +42,32 @@ abbrev positions_of_lines : List Said → List ℕ
 positions_of_lines ls = positions_of (cues_of_lines ls)
 
 -- ---- what a line adds, as it was read and as it is listed
-record Agree (x : Line) (o : Option Said) : Type 0 where
+record Agree (x : Result (Option Directive) Refusal) (o : Option Said) : Type 0 where
   starts : (ls : List Said) → starts_of_lines (or_none o ls) ≡ line_starts x ++ starts_of_lines ls
   positions : (ls : List Said) → positions_of_lines (or_none o ls) ≡ line_positions x ++ positions_of_lines ls
   count : length (line_starts x) ≡ cues_in o
   same : length (line_positions x) ≡ cues_in o
   fits : (n a b : ℕ) → room_for (some (min a b)) n o ≡ true → CueFits x n a b
 
-agree : (x : Line) (o : Option Said) → line_says x ≡ ok (mapped o) → Agree x o
+agree : (x : Result (Option Directive) Refusal) (o : Option Said) → line_says x ≡ ok (mapped o) → Agree x o
 unfolding cues_of_lines CueFits
-agree (line.Refused k) o e = ok-not-refuse e
-agree line.Nothing none e = record { starts = λ ls. refl; positions = λ ls. refl; count = refl; same = refl; fits = λ n a b r. tt }
-agree line.Nothing (some (size l w h)) e = never (cc)
-agree line.Nothing (some (palette l ts)) e = never (cc)
-agree line.Nothing (some (timestamp l ps fs v)) e = never (cc)
-agree (line.Sized a b) none e = never (cc)
-agree (line.Sized a b) (some (size l w h)) e = record { starts = λ ls. refl; positions = λ ls. refl; count = refl; same = refl; fits = λ n a b r. tt }
-agree (line.Sized a b) (some (palette l ts)) e = never (cc)
-agree (line.Sized a b) (some (timestamp l ps fs v)) e = never (cc)
-agree (line.Coloured t) none e = never (cc)
-agree (line.Coloured t) (some (size l w h)) e = never (cc)
-agree (line.Coloured t) (some (palette l ts)) e = record { starts = λ ls. refl; positions = λ ls. refl; count = refl; same = refl; fits = λ n a b r. tt }
-agree (line.Coloured t) (some (timestamp l ps fs v)) e = never (cc)
-agree (line.Cue z k) none e = never (cc)
-agree (line.Cue z k) (some (size l w h)) e = never (cc)
-agree (line.Cue z k) (some (palette l ts)) e = never (cc)
-agree (line.Cue z k) (some (timestamp l ps fs v)) e =
+agree (Err k) o e = ok-not-refuse e
+agree (Ok none) none e = record { starts = λ ls. refl; positions = λ ls. refl; count = refl; same = refl; fits = λ n a b r. tt }
+agree (Ok none) (some (size l w h)) e = never (cc)
+agree (Ok none) (some (palette l ts)) e = never (cc)
+agree (Ok none) (some (timestamp l ps fs v)) e = never (cc)
+agree (Ok (some (directive.Size a b))) none e = never (cc)
+agree (Ok (some (directive.Size a b))) (some (size l w h)) e = record { starts = λ ls. refl; positions = λ ls. refl; count = refl; same = refl; fits = λ n a b r. tt }
+agree (Ok (some (directive.Size a b))) (some (palette l ts)) e = never (cc)
+agree (Ok (some (directive.Size a b))) (some (timestamp l ps fs v)) e = never (cc)
+agree (Ok (some (directive.Palette t))) none e = never (cc)
+agree (Ok (some (directive.Palette t))) (some (size l w h)) e = never (cc)
+agree (Ok (some (directive.Palette t))) (some (palette l ts)) e = record { starts = λ ls. refl; positions = λ ls. refl; count = refl; same = refl; fits = λ n a b r. tt }
+agree (Ok (some (directive.Palette t))) (some (timestamp l ps fs v)) e = never (cc)
+agree (Ok (some (directive.Cue z k))) none e = never (cc)
+agree (Ok (some (directive.Cue z k))) (some (size l w h)) e = never (cc)
+agree (Ok (some (directive.Cue z k))) (some (palette l ts)) e = never (cc)
+agree (Ok (some (directive.Cue z k))) (some (timestamp l ps fs v)) e =
     let p = ok-injective e in
     record {
       starts = λ ls. ap (λ (y : ℤ). y ∷ starts_of_lines ls) (cc);
@@ -104,7 +106,7 @@ filling-starts text starts positions h =
     }
 
 module _ (text : List ℕ) (i k : ℕ) (inside : i ≤ length text) (lead : k ≡ length (front (unlike line_end) (take (length text - i) (drop i text))))
-    (l : List ℕ) (cut : l ≡ trimmed (take (i + k - i) (drop i text))) (was new : List ℕ) (x : Line) (read : LineRead l was x new)
+    (l : List ℕ) (cut : l ≡ trimmed (take (i + k - i) (drop i text))) (was new : List ℕ) (x : Result (Option Directive) Refusal) (read : LineRead l was x new)
     (starts₀ : List ℤ) (positions₀ : List ℕ) (starts : List ℤ) (positions : List ℕ) (n : ℕ) (so_far : Filling text starts₀ positions₀ starts positions n i) where
   room : ℕ
   room = min (length starts₀) (length positions₀)
@@ -193,13 +195,10 @@ module _ (text : List ℕ) (i k : ℕ) (inside : i ≤ length text) (lead : k �
         }
 
 -- ---- one line's cue
-module _ (x : Line) (n : ℕ) (starts : List ℤ) (positions : List ℕ) where
+module _ (x : Result (Option Directive) Refusal) (n : ℕ) (starts : List ℤ) (positions : List ℕ) where
   pub stored-none : line_starts x ≡ [] → line_positions x ≡ [] → CueStored x n starts positions n starts positions
   stored-none e f = record { next = rw e (sym (add-zero n)); starts_are = rw e; positions_are = rw f }
 
-  pub stored-cue : (z y : ℤ) (v : ℕ) → x ≡ line.Cue z v → y ≡ z → CueStored x n starts positions (n + 1) (set starts n y) (set positions n v)
-  stored-cue z y v e f = record { next = rw e; starts_are = rw (e, f); positions_are = rw e }
-
-  pub cue-fits : (z : ℤ) (v : ℕ) → x ≡ line.Cue z v → CueFits x n (length starts) (length positions) → (n < length starts) × (n < length positions)
+  pub cue-fits : (z : ℤ) (v : ℕ) → x ≡ Ok (some (directive.Cue z v)) → CueFits x n (length starts) (length positions) → (n < length starts) × (n < length positions)
   unfolding CueFits
-  cue-fits z v e h = subst (λ (y : Line). CueFits y n (length starts) (length positions)) e h
+  cue-fits z v e h = subst (λ (y : Result (Option Directive) Refusal). CueFits y n (length starts) (length positions)) e h

@@ -2,7 +2,7 @@
 -- variables. Assumes nothing.
 use Prim.Native.Nat.{ℕ, zero, suc, ◌<◌, min}
 use mathlib.Core.Path.{◌≡◌, refl, sym, ap, ◌∙◌, subst}
-use mathlib.Core.Option.{Option, some}
+use Rattle.std.specs.Prelude.{Option, Some as some}
 use mathlib.Core.List.{List, [], ◌∷◌}
 use native.Mathlib.Omega.{arith}
 use lib.IntN.{ℤ, pos}
@@ -17,8 +17,6 @@ use Rattle.idx_numbers_model.proofs.Grammar.{never}
 use Rattle.idx_model.specs.Text.{text_in, idx_in, idx_of}
 use Rattle.idx_model.specs.Answers.{MeasuredAs, one_seen, seen_of, palette_over, idx_measured_of, IdxMeasuredAs, starts_of, positions_of, CuesStored, idx_answer, lines_with, idx_with, IdxStored, IdxRead, pick_of, cue_answer}
 use Rattle.idx_model.specs.declared.Seen.{Seen}
-use Rattle.idx_model.specs.declared.Measured.{Measured}
-use Rattle.idx_model.specs.declared.Measured.TheVariants as measured
 use Rattle.idx_model.specs.declared.IdxAnswer.{IdxAnswer}
 use Rattle.idx_model.specs.declared.CueAnswer.{CueAnswer}
 use Rattle.idx_model.proofs.Picks.{text_open}
@@ -36,7 +34,7 @@ with-bytes room (b ∷ s) h = refl
 
 -- ---- `measure_empty`
 module _ (cue room : ℕ) (was : List ℕ) where
-  pub empty_refused : room ≡ 0 → IdxMeasuredAs cue was (idx_in (some room) []) (measured.Refused short_cues) was
+  pub empty_refused : room ≡ 0 → IdxMeasuredAs cue was (idx_in (some room) []) (refuse short_cues) was
   unfolding idx_in
   empty_refused e =
       let q : idx_in (some room) [] ≡ refuse short_cues = rw e in
@@ -46,17 +44,17 @@ module _ (cue room : ℕ) (was : List ℕ) where
       }
 
   pub empty_seen : 0 < room → (s : Seen) → s ≡ one_seen → (p : List ℕ) → p ≡ greys
-      → IdxMeasuredAs cue was (idx_in (some room) []) (measured.Saw s) p
+      → IdxMeasuredAs cue was (idx_in (some room) []) (ok s) p
   unfolding idx_in
   empty_seen h s e p f =
       let q : idx_in (some room) [] ≡ ok (no_bytes greys) = rw (lt-ltb 0 room h) in
       record {
-        says = ap measured.Saw e ∙ ap (idx_measured_of cue) (sym q);
+        says = ap ok e ∙ ap (idx_measured_of cue) (sym q);
         palette = λ t g. f ∙ ap (palette_over was) (ok-injective (sym q ∙ g));
       }
 
 -- ---- `measure_idx`
-module _ (text : List ℕ) (cue room : ℕ) (was : List ℕ) (r : Measured) (now : List ℕ) where
+module _ (text : List ℕ) (cue room : ℕ) (was : List ℕ) (r : Res Seen) (now : List ℕ) where
   pub empty-measured : length text ≡ 0 → IdxMeasuredAs cue was (idx_in (some room) []) r now
       → IdxMeasuredAs cue was (idx_in (some room) text) r now
   empty-measured e =
@@ -129,13 +127,13 @@ module _ (text : List ℕ) (starts : List ℤ) (positions : List ℕ) (so : IsOk
         }
 
 -- ---- what measuring says of a text
-measured-refused : (cue : ℕ) (text : Res ListedText) (r : Measured) (n : ℕ) → r ≡ idx_measured_of cue text
-    → r ≡ measured.Refused n → text ≡ refuse n
+measured-refused : (cue : ℕ) (text : Res ListedText) (r : Res Seen) (n : ℕ) → r ≡ idx_measured_of cue text
+    → r ≡ refuse n → text ≡ refuse n
 measured-refused cue (ok t) r n e f = never (cc)
 measured-refused cue (refuse m) r n e f = let q : m ≡ n = cc in ap refuse q
 
-measured-saw : (cue : ℕ) (text : Res ListedText) (r : Measured) (s : Seen) → r ≡ idx_measured_of cue text
-    → r ≡ measured.Saw s → (t : ListedText) × (text ≡ ok t) × (s ≡ seen_of cue t)
+measured-saw : (cue : ℕ) (text : Res ListedText) (r : Res Seen) (s : Seen) → r ≡ idx_measured_of cue text
+    → r ≡ ok s → (t : ListedText) × (text ≡ ok t) × (s ≡ seen_of cue t)
 measured-saw cue (ok t) r s e f = (t, refl, cc)
 measured-saw cue (refuse m) r s e f = never (cc)
 
@@ -147,12 +145,13 @@ over_black (no_bytes p) = refl
 -- ---- `parse_idx`
 module _ (text : List ℕ) (starts : List ℤ) (positions : List ℕ)
     (room : ℕ) (short : room ≡ min (length starts) (length positions))
-    (r : Measured) (now : List ℕ) (told : IdxMeasuredAs 0 first_palette (idx_in (some room) text) r now) where
+    (r : Res Seen) (now : List ℕ) (told : IdxMeasuredAs 0 first_palette (idx_in (some room) text) r now) where
   same : idx_in (some room) text ≡ idx_with starts positions text
   same = ap (λ (n : ℕ). idx_in (some n) text) short
 
-  pub idx_refused : (n : ℕ) → r ≡ measured.Refused n → (a : IdxAnswer) → a ≡ idx_answer (refuse n)
+  pub idx_refused : (n : ℕ) → r ≡ refuse n → (a : Res IdxAnswer) → a ≡ refuse n
       → IdxRead text starts positions a starts positions
+  unfolding idx_answer
   idx_refused n e a f =
       let q : idx_with starts positions text ≡ refuse n =
       sym same ∙ measured-refused 0 (idx_in (some room) text) r n told.says e in
@@ -161,17 +160,14 @@ module _ (text : List ℕ) (starts : List ℤ) (positions : List ℕ)
         stored = record { starts_are = rw q; positions_are = rw q };
       }
 
-  module _ (s : Seen) (e : r ≡ measured.Saw s) where
+  module _ (s : Seen) (e : r ≡ ok s) where
     seen : (t : ListedText) × (idx_in (some room) text ≡ ok t) × (s ≡ seen_of 0 t)
     seen = measured-saw 0 (idx_in (some room) text) r s told.says e
 
     found : idx_with starts positions text ≡ ok seen.0
     found = sym same ∙ seen.1
 
-    pub idx-is-ok : IsOk (idx_with starts positions text)
-    idx-is-ok = subst IsOk (sym found) tt
-
-    pub idx_accepted : (a : IdxAnswer)
+    pub idx_accepted : (a : Res IdxAnswer)
         → ((t : ListedText) (cue : ℕ) → s ≡ seen_of cue t → now ≡ palette_of t → a ≡ idx_answer (ok t))
         → (starts' : List ℤ) (positions' : List ℕ) → IdxStored text starts positions starts' positions'
         → IdxRead text starts positions a starts' positions'
@@ -185,15 +181,15 @@ module _ (text : List ℕ) (starts : List ℤ) (positions : List ℕ)
 
 -- ---- `pick_cue`
 module _ (text : List ℕ) (cue room : ℕ) (large : length text < room)
-    (r : Measured) (now : List ℕ) (told : IdxMeasuredAs cue first_palette (idx_in (some room) text) r now) where
-  pub cue-refused : (n : ℕ) → r ≡ measured.Refused n → (a : CueAnswer) → a ≡ cue_answer (refuse n)
+    (r : Res Seen) (now : List ℕ) (told : IdxMeasuredAs cue first_palette (idx_in (some room) text) r now) where
+  pub cue-refused : (n : ℕ) → r ≡ refuse n → (a : Res CueAnswer) → a ≡ refuse n
       → a ≡ cue_answer (pick_of (idx_of text) cue)
-  unfolding pick_of
+  unfolding pick_of cue_answer
   cue-refused n e a f =
       f
       ∙ rw (sym (text_open text room large) ∙ measured-refused cue (idx_in (some room) text) r n told.says e)
 
-  pub cue-picked : (s : Seen) → r ≡ measured.Saw s → (a : CueAnswer)
+  pub cue-picked : (s : Seen) → r ≡ ok s → (a : Res CueAnswer)
       → ((t : ListedText) → s ≡ seen_of cue t → now ≡ palette_of t → a ≡ cue_answer (pick_of (ok t) cue))
       → a ≡ cue_answer (pick_of (idx_of text) cue)
   cue-picked s e a f =

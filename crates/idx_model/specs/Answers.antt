@@ -1,20 +1,19 @@
 -- What the answers of the code mean, and what the buffers hold after a call (FORMAT 1.9 to 1.13).
 -- Assumes nothing: these are definitions.
-use Rattle.std.specs.Prelude.{ℕ, ◌+◌, ◌<◌, min, ◌≡◌, Bool, false, cond, ◌||◌, List, [], ◌∷◌, map, eqb, ltb, length, replicate, ℤ, pos}
-use Rattle.std.proofs.Math.Option.{Option, some, none}
+use Rattle.std.specs.Prelude.{ℕ, ◌+◌, ◌<◌, min, ◌≡◌, Bool, false, cond, ◌||◌, List, [], ◌∷◌, map, eqb, ltb, length, ℤ, pos, Result, Ok, Err}
+use Rattle.std.specs.Prelude.{Option, Some as some, None as none}
 use Rattle.std.proofs.lemmas.List.Edits.{sets}
 use Rattle.outcome.specs.Outcome.{Res, ok, refuse, need, and_then, listed, listed_by, no_cue, short_cues}
 use Rattle.grammar.specs.Index.{Said, ListedText, of_lines, no_bytes}
 use Rattle.grammar.specs.IndexCues.{Cue, cues_of_lines, cues_of, cue_at, palette_from, palette_of, has_palette, display_size, duration_of}
-use Rattle.grammar.specs.Record.{given}
 use Rattle.clock_model.specs.Answers.{micros}
+use Rattle.clock_model.specs.declared.Micros.{Micros}
 use Rattle.idx_lines_model.specs.Answers.{Value, sized, coloured, cued, value_of}
-use Rattle.idx_lines_model.specs.declared.Line.{Line}
-use Rattle.idx_lines_model.specs.declared.Line.TheVariants as line
+use Rattle.outcome.specs.declared.Refusal.{Refusal}
+use Rattle.idx_lines_model.specs.declared.Directive.{Directive}
+use Rattle.idx_lines_model.specs.declared.Directive.TheVariants as directive
 use Rattle.idx_model.specs.Text.{text_in, idx_in}
 use Rattle.idx_model.specs.declared.Seen.{Seen}
-use Rattle.idx_model.specs.declared.Measured.{Measured}
-use Rattle.idx_model.specs.declared.Measured.TheVariants as measured
 use Rattle.idx_model.specs.declared.IdxAnswer.{IdxAnswer}
 use Rattle.idx_model.specs.declared.CueAnswer.{CueAnswer}
 
@@ -61,19 +60,19 @@ see_all cue s [] = s
 see_all cue s (l ∷ ls) = see_all cue (see_value cue s (value_of l)) ls
 
 -- after one more line: refused, or seen
-abbrev pub see_line : ℕ → ℕ → Seen → Res (Option Value) → Measured
-see_line cue room s (refuse n) = measured.Refused n
-see_line cue room s (ok none) = measured.Saw s
-see_line cue room s (ok (some (sized w h))) = measured.Saw (see_size s w h)
-see_line cue room s (ok (some (coloured any))) = measured.Saw (see_palette s any)
-see_line cue room s (ok (some (cued z v))) = cond (ltb s.cues room) (measured.Saw (see_cue cue s z v)) (measured.Refused short_cues)
+abbrev pub see_line : ℕ → ℕ → Seen → Res (Option Value) → Res Seen
+see_line cue room s (refuse n) = refuse n
+see_line cue room s (ok none) = ok s
+see_line cue room s (ok (some (sized w h))) = ok (see_size s w h)
+see_line cue room s (ok (some (coloured any))) = ok (see_palette s any)
+see_line cue room s (ok (some (cued z v))) = cond (ltb s.cues room) (ok (see_cue cue s z v)) (refuse short_cues)
 
-abbrev pub measured_of : ℕ → Seen → Res (List Said) → Measured
-measured_of cue s (ok ls) = measured.Saw (see_all cue s ls)
-measured_of cue s (refuse n) = measured.Refused n
+abbrev pub measured_of : ℕ → Seen → Res (List Said) → Res Seen
+measured_of cue s (ok ls) = ok (see_all cue s ls)
+measured_of cue s (refuse n) = refuse n
 
 -- what measuring leaves: the answer, and the palette of an accepted text
-pub record MeasuredAs (cue : ℕ) (was : List ℕ) (lines : Res (List Said)) (r : Measured) (now : List ℕ) : Type 0 where
+pub record MeasuredAs (cue : ℕ) (was : List ℕ) (lines : Res (List Said)) (r : Res Seen) (now : List ℕ) : Type 0 where
   pub says : r ≡ measured_of cue nothing_seen lines
   pub palette : (ls : List Said) → lines ≡ ok ls → now ≡ palette_from was ls
 
@@ -90,12 +89,12 @@ abbrev pub palette_over : List ℕ → ListedText → List ℕ
 palette_over was (of_lines ls) = palette_from was ls
 palette_over was (no_bytes p) = p
 
-abbrev pub idx_measured_of : ℕ → Res ListedText → Measured
-idx_measured_of cue (ok t) = measured.Saw (seen_of cue t)
-idx_measured_of cue (refuse n) = measured.Refused n
+abbrev pub idx_measured_of : ℕ → Res ListedText → Res Seen
+idx_measured_of cue (ok t) = ok (seen_of cue t)
+idx_measured_of cue (refuse n) = refuse n
 
 -- what measuring a text leaves, with a byte or without
-pub record IdxMeasuredAs (cue : ℕ) (was : List ℕ) (text : Res ListedText) (r : Measured) (now : List ℕ) : Type 0 where
+pub record IdxMeasuredAs (cue : ℕ) (was : List ℕ) (text : Res ListedText) (r : Res Seen) (now : List ℕ) : Type 0 where
   pub says : r ≡ idx_measured_of cue text
   pub palette : (t : ListedText) → text ≡ ok t → now ≡ palette_over was t
 
@@ -107,29 +106,29 @@ abbrev pub positions_of : List Cue → List ℕ
 positions_of cs = map (λ (c : Cue). c.position) cs
 
 -- a line that adds a cue has room in both
-unfoldable pub CueFits : Line → ℕ → ℕ → ℕ → Type 0
-CueFits (line.Refused k) n a b = Unit {0}
-CueFits line.Nothing n a b = Unit {0}
-CueFits (line.Sized w h) n a b = Unit {0}
-CueFits (line.Coloured any) n a b = Unit {0}
-CueFits (line.Cue z v) n a b = (n < a) × (n < b)
+unfoldable pub CueFits : Result (Option Directive) Refusal → ℕ → ℕ → ℕ → Type 0
+CueFits (Err k) n a b = Unit {0}
+CueFits (Ok none) n a b = Unit {0}
+CueFits (Ok (some (directive.Size w h))) n a b = Unit {0}
+CueFits (Ok (some (directive.Palette any))) n a b = Unit {0}
+CueFits (Ok (some (directive.Cue z v))) n a b = (n < a) × (n < b)
 
-abbrev pub line_starts : Line → List ℤ
-line_starts (line.Refused k) = []
-line_starts line.Nothing = []
-line_starts (line.Sized w h) = []
-line_starts (line.Coloured any) = []
-line_starts (line.Cue z v) = z ∷ []
+abbrev pub line_starts : Result (Option Directive) Refusal → List ℤ
+line_starts (Err k) = []
+line_starts (Ok none) = []
+line_starts (Ok (some (directive.Size w h))) = []
+line_starts (Ok (some (directive.Palette any))) = []
+line_starts (Ok (some (directive.Cue z v))) = z ∷ []
 
-abbrev pub line_positions : Line → List ℕ
-line_positions (line.Refused k) = []
-line_positions line.Nothing = []
-line_positions (line.Sized w h) = []
-line_positions (line.Coloured any) = []
-line_positions (line.Cue z v) = v ∷ []
+abbrev pub line_positions : Result (Option Directive) Refusal → List ℕ
+line_positions (Err k) = []
+line_positions (Ok none) = []
+line_positions (Ok (some (directive.Size w h))) = []
+line_positions (Ok (some (directive.Palette any))) = []
+line_positions (Ok (some (directive.Cue z v))) = v ∷ []
 
 -- a line's cue, stored as cue n
-pub record CueStored (l : Line) (n : ℕ) (starts : List ℤ) (positions : List ℕ) (r : ℕ) (starts' : List ℤ) (positions' : List ℕ) : Type 0 where
+pub record CueStored (l : Result (Option Directive) Refusal) (n : ℕ) (starts : List ℤ) (positions : List ℕ) (r : ℕ) (starts' : List ℤ) (positions' : List ℕ) : Type 0 where
   pub next : r ≡ n + length (line_starts l)
   pub starts_are : starts' ≡ sets starts n (line_starts l)
   pub positions_are : positions' ≡ sets positions n (line_positions l)
@@ -141,22 +140,18 @@ pub record CuesStored (lines : Res (List Said)) (starts : List ℤ) (positions :
 
 -- ---- The whole text
 
--- black
-abbrev pub no_colours : List ℕ
-no_colours = replicate 48 0
-
--- size, palette and the number of cues; 0 beside a refusal
-unfoldable pub idx_answer : Res ListedText → IdxAnswer
-idx_answer (refuse n) = record { refused = n; width = 0; height = 0; has_palette = false; palette = no_colours; cues = 0 }
+-- size, palette and the number of cues, or the refusal
+unfoldable pub idx_answer : Res ListedText → Res IdxAnswer
+idx_answer (refuse n) = refuse n
 idx_answer (ok t) =
-    record {
-      refused = 0;
+    ok
+    (record {
       width = (display_size t).width;
       height = (display_size t).height;
       has_palette = has_palette t;
       palette = palette_of t;
       cues = length (cues_of t);
-    }
+    })
 
 -- the lines of a text, with buffers of these lengths
 abbrev pub lines_with : List ℤ → List ℕ → List ℕ → Res (List Said)
@@ -172,7 +167,7 @@ pub record IdxStored (text : List ℕ) (starts : List ℤ) (positions : List ℕ
   pub positions_are : positions' ≡ sets positions 0 (positions_of (listed_by (idx_with starts positions text) cues_of))
 
 -- the answer, and the front of both buffers; on a refusal both are as found
-pub record IdxRead (text : List ℕ) (starts : List ℤ) (positions : List ℕ) (r : IdxAnswer) (starts' : List ℤ) (positions' : List ℕ) : Type 0 where
+pub record IdxRead (text : List ℕ) (starts : List ℤ) (positions : List ℕ) (r : Res IdxAnswer) (starts' : List ℤ) (positions' : List ℕ) : Type 0 where
   pub answer : r ≡ idx_answer (idx_with starts positions text)
   pub stored : IdxStored text starts positions starts' positions'
 
@@ -194,24 +189,19 @@ abbrev pub or_zero : Option ℕ → ℕ
 or_zero none = 0
 or_zero (some d) = d
 
-unfoldable pub cue_answer : Res Picked → CueAnswer
-cue_answer (refuse n) =
-    record {
-      refused = n;
-      start = micros (pos 0);
-      position = 0;
-      has_duration = false;
-      duration = micros (pos 0);
-      has_palette = false;
-      palette = no_colours;
-    }
+-- the time up to the next cue, as the code has it
+abbrev pub duration_in : Option ℕ → Option Micros
+duration_in none = none
+duration_in (some d) = some (micros (pos d))
+
+unfoldable pub cue_answer : Res Picked → Res CueAnswer
+cue_answer (refuse n) = refuse n
 cue_answer (ok p) =
-    record {
-      refused = 0;
+    ok
+    (record {
       start = micros p.cue.start;
       position = p.cue.position;
-      has_duration = given p.duration;
-      duration = micros (pos (or_zero p.duration));
+      duration = duration_in p.duration;
       has_palette = p.coloured;
       palette = p.palette;
-    }
+    })

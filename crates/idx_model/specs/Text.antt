@@ -1,7 +1,7 @@
 -- What is listed of an index text, found, or the number of the first refusal (FORMAT 1.1, 1.2, 1.11, 1.13).
 -- One definition with cue buffers and without. Assumes nothing: these are definitions.
 use Rattle.std.specs.Prelude.{ℕ, ◌+◌, Bool, true, List, [], ◌∷◌, ltb}
-use Rattle.std.proofs.Math.Option.{Option, some, none}
+use Rattle.std.specs.Prelude.{Option, Some as some, None as none}
 use Rattle.outcome.specs.Outcome.{Res, ok, check, and_then, map_res, high_byte, short_cues}
 use Rattle.grammar.specs.Parts.{Part}
 use Rattle.grammar.specs.IndexParts.{line_end}

@@ -4,7 +4,7 @@
 use clock_model::Micros;
 
 // What was seen of a text, on the way to one of its cues.
-#[derive(Clone, Copy)]
+#[derive(Clone, Copy, Debug, PartialEq, Eq)]
 pub struct Seen {
     // How many cues there are.
     pub cues: usize,
@@ -17,18 +17,9 @@ pub struct Seen {
     pub next: i64,
 }
 
-#[derive(Clone, Copy)]
-pub enum Measured {
-    // The number of the refusal.
-    Refused(u8),
-    Saw(Seen),
-}
-
-// Size, palette and number of cues of a text. Beside a refusal all else is 0.
-#[derive(Clone, Copy)]
+// Size, palette and number of cues of a text.
+#[derive(Clone, Copy, Debug, PartialEq, Eq)]
 pub struct IdxAnswer {
-    // The number of the refusal; 0 where there is none.
-    pub refused: u8,
     pub width: u16,
     pub height: u16,
     pub has_palette: bool,
@@ -37,16 +28,13 @@ pub struct IdxAnswer {
     pub cues: usize,
 }
 
-// One cue of a text. Beside a refusal all else is 0.
-#[derive(Clone, Copy)]
+// One cue of a text.
+#[derive(Clone, Copy, Debug, PartialEq, Eq)]
 pub struct CueAnswer {
-    // The number of the refusal; 0 where there is none.
-    pub refused: u8,
     pub start: Micros,
     pub position: u32,
-    // Whether another cue follows, and the time up to it; 0 where none does.
-    pub has_duration: bool,
-    pub duration: Micros,
+    // The time up to the next cue, if another follows.
+    pub duration: Option<Micros>,
     pub has_palette: bool,
     // Red, green and blue of 16 entries.
     pub palette: [u8; 48],

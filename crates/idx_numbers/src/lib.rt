@@ -2,45 +2,43 @@
 // hand back a part of it, a length or a number.
 #![tactic(auto)]
 
-ghost use Rattle.std.specs.Prelude.{◌≡◌, not, List, ℕ, ◌≤◌, ◌<◌, ◌+◌, ◌*◌, length, take, drop, pos, ◌*ℤ◌};
+ghost use Rattle.std.specs.Fn.{FnReturnsAt};
+ghost use Rattle.std.specs.Prelude.{◌≡◌, not, Bool, List, ℕ, ◌≤◌, ◌<◌, ◌+◌, ◌*◌, length, take, drop, pos, ◌*ℤ◌};
 ghost use Rattle.grammar.specs.IndexParts;
 ghost use Rattle.grammar.specs.IndexNumbers;
 ghost use Rattle.idx_numbers_model.specs.Parts;
 ghost use Rattle.idx_numbers_model.specs.Parts.{front, shorn, trimmed, all};
-ghost use Rattle.idx_numbers_model.specs.Numbers.{digits, unsigned, bare, hex, position_of};
+ghost use Rattle.idx_numbers_model.specs.Numbers as DigitNumbers;
+ghost use Rattle.idx_numbers_model.specs.Numbers.{bare, hex, position_of};
 ghost use Rattle.clock_model.specs.Sums.{checked};
 ghost use Rattle.idx_numbers_model.specs.Times.{micros_of};
-ghost use Rattle.idx_numbers_model.specs.Answers.{test, value_in, fitting, Bound, run_of, lowest};
+ghost use Rattle.idx_numbers_model.specs.Answers.{fitting, Bound, run_of, lowest};
 
 use clock::plus;
-use clock_model::Num;
-use idx_numbers_model::{Kind, Number, Run};
+use idx_numbers_model::Digits;
 
-fn is_blank(b: u8) -> bool
+// Ruled out: a byte 08 or 0E taken for a blank.
+pub fn is_blank(b: u8) -> bool
     ensures { result ≡ IndexParts.blank b }
 {
-    if b < 9 {
-        return false;
-    }
-    if b <= 13 {
-        return true;
-    }
-    b == 32
+    matches!(b, 9..=13 | 32)
+}
+
+// How many leading bytes pass.
+// Ruled out: bytes that pass after one that does not; the first other byte counted.
+pub fn leading<F: Fn(&u8) -> bool>(s: &[u8], passes: F) -> usize
+    requires { F.IsAlwaysCallable passes }
+    ensures { (p : ℕ → Bool) → ((b : ℕ) (r : Bool) → FnReturnsAt F.Fn passes b r → r ≡ p b) → result ≡ length (front p s.now) }
+{
+    s.iter().position(|b| !passes(b)).unwrap_or(s.len())
 }
 
 // How many leading bytes are blanks.
-// Ruled out: a byte 08 or 0E taken for a blank; a count of all blanks of the part.
+// Ruled out: a count of all blanks of the part.
 pub fn blanks(s: &[u8]) -> usize
     ensures { result ≡ length (front IndexParts.blank s.now) }
 {
-    let mut i = 0;
-    while i < s.len() {
-        if !is_blank(s[i]) {
-            return i;
-        }
-        i += 1;
-    }
-    i
+    leading(s, |b| is_blank(*b))
 }
 
 // How many bytes are left without the trailing blanks.
@@ -48,14 +46,10 @@ pub fn blanks(s: &[u8]) -> usize
 pub fn kept(s: &[u8]) -> usize
     ensures { result ≡ length (shorn IndexParts.blank s.now) }
 {
-    let mut e = s.len();
-    while e > 0 {
-        if !is_blank(s[e - 1]) {
-            return e;
-        }
-        e -= 1;
+    match s.iter().rposition(|b| !is_blank(*b)) {
+        Some(last) => last + 1,
+        None => 0,
     }
-    0
 }
 
 // The part without the blanks at its ends.
@@ -75,12 +69,10 @@ fn eight_have(s: &[u8], i: usize, sep: u8) -> bool
     ensures { result ≡ not (all (IndexParts.unlike sep) (take 8 (drop i s.now))) }
 {
     let mut hit = false;
-    let mut j = 0;
-    while j < 8 {
-        if s[i + j] == sep {
+    for b in &s[i..i + 8] {
+        if *b == sep {
             hit = true;
         }
-        j += 1;
     }
     hit
 }
@@ -89,17 +81,10 @@ fn eight_have(s: &[u8], i: usize, sep: u8) -> bool
 fn near(s: &[u8], sep: u8) -> usize
     ensures { result ≡ length (front (IndexParts.unlike sep) s.now) }
 {
-    let mut i = 0;
-    while i < s.len() {
-        if s[i] == sep {
-            return i;
-        }
-        i += 1;
-    }
-    i
+    leading(s, |b| *b != sep)
 }
 
-// How many bytes stand before the first sep.
+// How many bytes stand before the first sep. Blocks of eight are passed over, each tested at once; the step is held by an edit.
 // Ruled out: the last separator; a part without one taken for empty.
 pub fn until(s: &[u8], sep: u8) -> usize
     ensures { result ≡ length (front (IndexParts.unlike sep) s.now) }
@@ -115,57 +100,13 @@ pub fn until(s: &[u8], sep: u8) -> usize
     i + near(&s[i..], sep)
 }
 
-fn passes(k: Kind, b: u8) -> bool
-    ensures { result ≡ test k b }
-{
-    match k {
-        Kind::Parting => {
-            if is_blank(b) {
-                return true;
-            }
-            b == 44
-        }
-        Kind::Token => {
-            if is_blank(b) {
-                return false;
-            }
-            b != 44
-        }
-    }
-}
-
-// How many leading bytes are of the kind.
-// Ruled out: bytes of the kind after another byte; a comma in a token.
-pub fn leading(s: &[u8], k: Kind) -> usize
-    ensures { result ≡ length (front (test k) s.now) }
-{
-    let mut i = 0;
-    while i < s.len() {
-        if !passes(k, s[i]) {
-            return i;
-        }
-        i += 1;
-    }
-    i
-}
-
-// Eight bytes as one number, the first one lowest.
-fn eight_of(a: u8, b: u8, c: u8, d: u8, e: u8, f: u8, g: u8, h: u8) -> u64
-    ensures { result ≡ a + 256 * (b + 256 * (c + 256 * (d + 256 * (e + 256 * (f + 256 * (g + 256 * h)))))) }
-{
-    let x = g as u64 + 256 * h as u64;
-    let y = e as u64 + 256 * (f as u64 + 256 * x);
-    let z = c as u64 + 256 * (d as u64 + 256 * y);
-    a as u64 + 256 * (b as u64 + 256 * z)
-}
-
 // The eight bytes from place i on as one number: a word of eight letters is one test.
 // Ruled out: the last byte first; seven bytes.
 pub fn eight_at(s: &[u8], i: usize) -> u64
     requires { i + 8 ≤ length s.now }
     ensures { result ≡ lowest (take 8 (drop i s.now)) }
 {
-    eight_of(
+    u64::from_le_bytes([
         s[i],
         s[i + 1],
         s[i + 2],
@@ -174,7 +115,7 @@ pub fn eight_at(s: &[u8], i: usize) -> u64
         s[i + 5],
         s[i + 6],
         s[i + 7],
-    )
+    ])
 }
 
 // Whether s starts with w.
@@ -182,41 +123,18 @@ pub fn eight_at(s: &[u8], i: usize) -> u64
 pub fn starts(s: &[u8], w: &[u8]) -> bool
     ensures { result ≡ Parts.starts w.now s.now }
 {
-    let mut i = 0;
-    while i < w.len() {
-        if i >= s.len() {
-            return false;
-        }
-        if s[i] != w[i] {
-            return false;
-        }
-        i += 1;
-    }
-    true
+    s.starts_with(w)
 }
 
 fn digit(b: u8) -> u64
     ensures { result ≡ IndexNumbers.digit b }
 {
-    if b < 48 {
-        return 16;
+    match b {
+        48..=57 => b as u64 - 48,
+        65..=70 => b as u64 - 55,
+        97..=102 => b as u64 - 87,
+        _ => 16,
     }
-    if b <= 57 {
-        return b as u64 - 48;
-    }
-    if b < 65 {
-        return 16;
-    }
-    if b <= 70 {
-        return b as u64 - 55;
-    }
-    if b < 97 {
-        return 16;
-    }
-    if b <= 102 {
-        return b as u64 - 87;
-    }
-    16
 }
 
 // Whether acc leaves room for a further digit d: no division for each digit.
@@ -232,214 +150,106 @@ fn fits(acc: u64, d: u64, most: u64, last: u64) -> bool
     d <= last
 }
 
-// The decimal digits at the front of s, and their number, if that is within the bound. A bound is given by its quotient and its
-// remainder by the base.
+// The digits of a base at the front of s, and their number, if that is within the bound. A bound is given by its quotient and
+// its remainder by the base.
 // Ruled out: the bound itself refused; digits after another byte.
-pub fn decimal_run(s: &[u8], most: u64, last: u64) -> Run
-    requires { Bound 10 most last }
-    ensures { result ≡ run_of 10 (most * 10 + last) s.now }
+pub fn digits<const BASE: u64>(s: &[u8], most: u64, last: u64) -> Option<Digits>
+    requires { Bound BASE most last }
+    ensures { result ≡ run_of BASE (most * BASE + last) s.now }
 {
     let mut acc: u64 = 0;
-    let mut i = 0;
-    while i < s.len() {
-        let b = s[i];
-        if b < 48 {
-            return Run::Is {
+    for (i, b) in s.iter().enumerate() {
+        let d = digit(*b);
+        if d >= BASE {
+            return Some(Digits {
                 count: i,
                 value: acc,
-            };
+            });
         }
-        if b > 57 {
-            return Run::Is {
-                count: i,
-                value: acc,
-            };
-        }
-        let d = b as u64 - 48;
         if !fits(acc, d, most, last) {
-            return Run::Over;
+            return None;
         }
-        acc = acc * 10 + d;
-        i += 1;
+        acc = acc * BASE + d;
     }
-    Run::Is {
-        count: i,
+    Some(Digits {
+        count: s.len(),
         value: acc,
-    }
+    })
 }
 
-// The hexadecimal ones, whose bound is 16 * most + 15.
-fn hex_run(s: &[u8], most: u64) -> Run
-    requires { Bound 16 most 15 }
-    ensures { result ≡ run_of 16 (most * 16 + 15) s.now }
+// The number of digits that are all of n bytes, one at least.
+fn whole(r: Option<Digits>, n: usize) -> Option<u64>
+    ensures { (base top : ℕ) (s : List ℕ) → 0 < base → r ≡ run_of base top s → n ≡ length s → result ≡ DigitNumbers.digits base top s }
 {
-    let mut acc: u64 = 0;
-    let mut i = 0;
-    while i < s.len() {
-        let d = digit(s[i]);
-        if d >= 16 {
-            return Run::Is {
-                count: i,
-                value: acc,
-            };
-        }
-        if acc > most {
-            return Run::Over;
-        }
-        acc = acc * 16 + d;
-        i += 1;
+    let found = r?;
+    if found.count == 0 || found.count < n {
+        return None;
     }
-    Run::Is {
-        count: i,
-        value: acc,
-    }
+    Some(found.value)
 }
 
-// The number of a run that is all of n bytes, one at least.
-fn whole(r: Run, n: usize) -> Number
-    ensures { (base top : ℕ) (s : List ℕ) → 0 < base → r ≡ run_of base top s → n ≡ length s → value_in result ≡ digits base top s }
-{
-    match r {
-        Run::Over => Number::Bad,
-        Run::Is { count, value } => {
-            if count == 0 {
-                return Number::Bad;
-            }
-            if count < n {
-                return Number::Bad;
-            }
-            Number::Is(value)
-        }
-    }
-}
-
-// A `+` or nothing, then decimal digits.
+// A `+` or nothing, then digits of the base.
 // Ruled out: a sign alone; a `-`.
-pub fn parse_decimal(s: &[u8], most: u64, last: u64) -> Number
-    requires { Bound 10 most last }
-    ensures { value_in result ≡ unsigned 10 (most * 10 + last) s.now }
+pub fn unsigned<const BASE: u64>(s: &[u8], most: u64, last: u64) -> Option<u64>
+    requires { Bound BASE most last }
+    ensures { result ≡ DigitNumbers.unsigned BASE (most * BASE + last) s.now }
 {
     if s.len() == 0 {
-        return Number::Bad;
+        return None;
     }
-    if s[0] == 43 {
+    if s[0] == b'+' {
         let t = &s[1..];
-        return whole(decimal_run(t, most, last), t.len());
+        return whole(digits::<BASE>(t, most, last), t.len());
     }
-    whole(decimal_run(s, most, last), s.len())
-}
-
-fn parse_sixteen(s: &[u8], most: u64) -> Number
-    requires { Bound 16 most 15 }
-    ensures { value_in result ≡ unsigned 16 (most * 16 + 15) s.now }
-{
-    if s.len() == 0 {
-        return Number::Bad;
-    }
-    if s[0] == 43 {
-        let t = &s[1..];
-        return whole(hex_run(t, most), t.len());
-    }
-    whole(hex_run(s, most), s.len())
+    whole(digits::<BASE>(s, most, last), s.len())
 }
 
 // Without every leading `0x`.
 fn strip_0x<'a>(s: &'a [u8]) -> &'a [u8]
     ensures { result.now ≡ bare s.now }
 {
-    let mut i = 0;
-    let n = s.len();
-    while n - i >= 2 {
-        if s[i] != 48 {
-            return &s[i..];
-        }
-        if s[i + 1] != 120 {
-            return &s[i..];
-        }
-        i += 2;
+    let mut rest = s;
+    while let Some(shorter) = rest.strip_prefix(b"0x") {
+        rest = shorter;
     }
-    &s[i..]
+    rest
 }
 
 // Hexadecimal, after every leading `0x`, at most 16 * most + 15.
 // Ruled out: a `+` before `0x`; no digit after `0x`.
-pub fn parse_hex(s: &[u8], most: u64) -> Number
+pub fn parse_hex(s: &[u8], most: u64) -> Option<u64>
     requires { Bound 16 most 15 }
-    ensures { value_in result ≡ hex (most * 16 + 15) s.now }
+    ensures { result ≡ hex (most * 16 + 15) s.now }
 {
     let h = strip_0x(s);
-    parse_sixteen(h, most)
+    unsigned::<16>(h, most, 15)
 }
 
 // Hexadecimal; only if that fails, decimal. Both bounds are the largest number of 64 bits.
 // Ruled out: decimal read where hexadecimal digits stand; `0x` taken away before decimal digits.
-pub fn parse_position(s: &[u8]) -> Number
-    ensures { value_in result ≡ position_of s.now }
+pub fn parse_position(s: &[u8]) -> Option<u64>
+    ensures { result ≡ position_of s.now }
 {
     match parse_hex(s, 1152921504606846975) {
-        Number::Is(v) => Number::Is(v),
-        Number::Bad => parse_decimal(s, 1844674407370955161, 5),
+        Some(v) => Some(v),
+        None => unsigned::<10>(s, 1844674407370955161, 5),
     }
 }
 
-fn times60(x: i64) -> Num
-    ensures { result ≡ checked (x *ℤ pos 60) }
+// A product, where it stays in signed 64 bits.
+fn times(a: i64, b: i64) -> Option<i64>
+    ensures { result ≡ checked (a *ℤ b) }
 {
-    if x > 153722867280912930 {
-        return Num::Over;
-    }
-    if x < -153722867280912930 {
-        return Num::Over;
-    }
-    Num::Is(x * 60)
-}
-
-fn times1000(x: i64) -> Num
-    ensures { result ≡ checked (x *ℤ pos 1000) }
-{
-    if x > 9223372036854775 {
-        return Num::Over;
-    }
-    if x < -9223372036854775 {
-        return Num::Over;
-    }
-    Num::Is(x * 1000)
-}
-
-fn times1000000(x: i64) -> Num
-    ensures { result ≡ checked (x *ℤ pos 1000000) }
-{
-    if x > 9223372036854 {
-        return Num::Over;
-    }
-    if x < -9223372036854 {
-        return Num::Over;
-    }
-    Num::Is(x * 1000000)
+    a.checked_mul(b)
 }
 
 // (((h·60)+m)·60+s)·1,000,000 + ms·1,000, refused where a step leaves signed 64 bits.
 // Ruled out: a step that leaves and comes back; milliseconds taken for microseconds.
-pub fn time_of(h: i64, m: i64, s: i64, ms: i64) -> Num
+pub fn time_of(h: i64, m: i64, s: i64, ms: i64) -> Option<i64>
     ensures { result ≡ micros_of h m s ms }
 {
-    let Num::Is(a) = times60(h) else {
-        return Num::Over;
-    };
-    let Num::Is(b) = plus(a, m) else {
-        return Num::Over;
-    };
-    let Num::Is(d) = times60(b) else {
-        return Num::Over;
-    };
-    let Num::Is(e) = plus(d, s) else {
-        return Num::Over;
-    };
-    let Num::Is(f) = times1000000(e) else {
-        return Num::Over;
-    };
-    let Num::Is(g) = times1000(ms) else {
-        return Num::Over;
-    };
-    plus(f, g)
+    let minutes = plus(times(h, 60)?, m)?;
+    let seconds = plus(times(minutes, 60)?, s)?;
+    let micros = times(seconds, 1000000)?;
+    plus(micros, times(ms, 1000)?)
 }

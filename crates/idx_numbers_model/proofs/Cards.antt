@@ -1,17 +1,16 @@
 -- Closed inputs on which each edit of this crate's definitions gives another value. Assumes nothing.
 use mathlib.Core.Path.{◌≡◌, refl}
-use mathlib.Core.Option.{some}
+use Rattle.std.specs.Prelude.{Some as some}
 use mathlib.Core.List.{[], ◌∷◌}
 use lib.IntN.{pos}
 use Rattle.grammar.specs.IndexNumbers.{numeral}
 use Rattle.idx_numbers_model.specs.Parts.{all}
 use Rattle.idx_numbers_model.specs.Numbers.{unsigned, bare, position_of}
 use Rattle.clock_model.specs.Sums.{checked}
-use Rattle.clock_model.specs.declared.Num.TheVariants.{Is}
 use Rattle.idx_numbers_model.specs.Times.{micros_of}
 
 -- 1:02:03.004
-pub hour-counted : micros_of (pos 1) (pos 2) (pos 3) (pos 4) ≡ Is (pos 3723004000)
+pub hour-counted : micros_of (pos 1) (pos 2) (pos 3) (pos 4) ≡ some (pos 3723004000)
 unfolding checked
 hour-counted = refl
 

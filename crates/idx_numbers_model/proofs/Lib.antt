@@ -2,5 +2,4 @@ pub mod Grammar
 pub mod Loops
 pub mod Numbers
 pub mod Steps
-pub mod Times
 pub mod Cards

@@ -1,26 +1,24 @@
 -- The turns of the number readers. Assumes nothing.
 use Prim.Native.Nat.{ℕ, suc, ◌+◌, ◌-◌, ◌*◌, ◌≤◌, ◌<◌}
 use mathlib.Core.Path.{◌≡◌, refl, sym, ap, ◌∙◌}
-use mathlib.Core.Logic.{◌⊎◌, inl, inr, ⊎_elim}
+use mathlib.Core.Logic.{◌⊎◌, inl, inr}
 use mathlib.Core.Bool.{Bool, true, false, cond, ◌&&◌, ◌||◌}
-use mathlib.Core.Option.{some, none}
+use Rattle.std.specs.Prelude.{Option, Some as some, None as none}
 use mathlib.Core.List.{List, [], ◌∷◌}
 use native.Mathlib.Omega.{arith}
-use native.Mathlib.Numerals.{add-one, add-two}
+use native.Mathlib.Numerals.{add-one}
 use native.Mathlib.Nat.{le-mul_of_pos_right, mul-le-mul_right, suc-mul, add-zero, zero-add}
-use lib.ListN.{length, get_or, take, drop, drop_of_length-le, length-drop}
+use lib.ListN.{length, get_or, take, drop, drop_of_length-le}
 use lib.Seq.{drop-cons, take_all}
 use lib.Dec.{leb, ltb, eqb}
+use lib.Pointwise.{pointwise}
 use borrow.Author.Tests.{lt-leb, le-leb, leb-true, leb-false, eq-eqb, ne_eqb, eqb-true, eqb-false, lt-ltb, le-ltb, ltb-true, ltb-false}
-use Rattle.grammar.specs.IndexNumbers.{digit, is_digit, numeral, top_position}
-use Rattle.idx_numbers_model.specs.Answers.{value_in, fitting, run_after, run_of}
-use Rattle.idx_numbers_model.specs.Numbers.{digits, unsigned, bare, hex, position_of}
+use Rattle.grammar.specs.IndexNumbers.{digit, is_digit, numeral}
+use Rattle.idx_numbers_model.specs.Answers.{fitting, run, run_after, run_of}
+use Rattle.idx_numbers_model.specs.Numbers.{digits, unsigned, bare}
 use Rattle.idx_numbers_model.specs.Parts.{front, all}
 use Rattle.idx_numbers_model.proofs.Grammar.{never}
-use Rattle.idx_numbers_model.specs.declared.Run.{Run}
-use Rattle.idx_numbers_model.specs.declared.Run.TheVariants.{Over as RunOver, Is as RunIs}
-use Rattle.idx_numbers_model.specs.declared.Number.{Number}
-use Rattle.idx_numbers_model.specs.declared.Number.TheVariants.{Bad, Is}
+use Rattle.idx_numbers_model.specs.declared.Digits.{Digits}
 
 le_or_lt : (a b : ℕ) → (a ≤ b) ⊎ (b < a)
 le_or_lt a b = go (leb a b) refl
@@ -34,39 +32,9 @@ module _ (b : ℕ) where
   pub digit-1 : b < 48 → 16 ≡ digit b
   digit-1 h = rw (lt-leb 48 b h, lt-leb 97 b (omega arith), lt-leb 65 b (omega arith))
 
-  pub digit-2 : 48 ≤ b → b ≤ 57 → b - 48 ≡ digit b
-  digit-2 h l = rw (le-leb 48 b h, le-leb b 57 l)
-
-  pub digit-3 : 57 < b → b < 65 → 16 ≡ digit b
-  digit-3 h l = rw (le-leb 48 b (omega arith), lt-leb b 57 h, lt-leb 97 b (omega arith), lt-leb 65 b l)
-
-  pub digit-4 : 65 ≤ b → b ≤ 70 → b - 55 ≡ digit b
-  digit-4 h l = rw (le-leb 48 b (omega arith), lt-leb b 57 (omega arith), lt-leb 97 b (omega arith), le-leb 65 b h, le-leb b 70 l)
-
-  pub digit-5 : 70 < b → b < 97 → 16 ≡ digit b
-  digit-5 h l = rw (le-leb 48 b (omega arith), lt-leb b 57 (omega arith), lt-leb 97 b l, le-leb 65 b (omega arith), lt-leb b 70 h)
-
-  pub digit-6 : 97 ≤ b → b ≤ 102 → b - 87 ≡ digit b
-  digit-6 h l = rw (le-leb 48 b (omega arith), lt-leb b 57 (omega arith), le-leb 97 b h, le-leb b 102 l)
-
-  pub digit-7 : 102 < b → 16 ≡ digit b
-  digit-7 h = rw (le-leb 48 b (omega arith), lt-leb b 57 (omega arith), le-leb 97 b (omega arith), lt-leb b 102 h, le-leb 65 b (omega arith), lt-leb b 70 (omega arith))
-
-  -- the others are none of base 10
+  -- it is none of base 10
   pub ten_low : b < 48 → 10 ≤ digit b
   ten_low h = let e : digit b ≡ 16 = sym (digit-1 h) in rw e (omega arith)
-
-  pub ten_high : 57 < b → 10 ≤ digit b
-  ten_high h = ⊎_elim upper (λ l. let e : digit b ≡ 16 = sym (digit-3 h l) in rw e (omega arith)) (le_or_lt 65 b)
-    where
-      top : 97 ≤ b → 10 ≤ digit b
-      top l = ⊎_elim (λ k. let e : digit b ≡ b - 87 = sym (digit-6 l k) in rw e (omega arith)) (λ k. let e : digit b ≡ 16 = sym (digit-7 k) in rw e (omega arith)) (le_or_lt b 102)
-
-      middle : 70 < b → 10 ≤ digit b
-      middle l = ⊎_elim top (λ k. let e : digit b ≡ 16 = sym (digit-5 l k) in rw e (omega arith)) (le_or_lt 97 b)
-
-      upper : 65 ≤ b → 10 ≤ digit b
-      upper l = ⊎_elim (λ k. let e : digit b ≡ b - 55 = sym (digit-4 l k) in rw e (omega arith)) middle (le_or_lt b 70)
 
 -- ---- the digits at the front: what is left gives the whole, over base and bound
 module _ (base top : ℕ) (pos_base : 0 < base) where
@@ -75,15 +43,15 @@ module _ (base top : ℕ) (pos_base : 0 < base) where
   grows [] acc = omega arith
   grows (b ∷ s) acc = omega (arith, le-mul_of_pos_right {m = base} acc pos_base, grows s (acc * base + digit b))
 
-  run-nil : (n acc : ℕ) → acc ≤ top → run_after base top n acc [] ≡ RunIs n acc
+  run-nil : (n acc : ℕ) → acc ≤ top → run_after base top n acc [] ≡ some (run n acc)
   unfolding run_after front numeral
   run-nil n acc h = rw (le-leb acc top h, add-zero n)
 
-  run-halt : (n acc b : ℕ) (s : List ℕ) → acc ≤ top → base ≤ digit b → run_after base top n acc (b ∷ s) ≡ RunIs n acc
+  run-halt : (n acc b : ℕ) (s : List ℕ) → acc ≤ top → base ≤ digit b → run_after base top n acc (b ∷ s) ≡ some (run n acc)
   unfolding run_after front numeral
   run-halt n acc b s h l = rw (le-ltb (digit b) base l, le-leb acc top h, add-zero n)
 
-  run_past : (n acc b : ℕ) (s : List ℕ) → digit b < base → top < acc * base + digit b → run_after base top n acc (b ∷ s) ≡ RunOver
+  run_past : (n acc b : ℕ) (s : List ℕ) → digit b < base → top < acc * base + digit b → run_after base top n acc (b ∷ s) ≡ none
   unfolding run_after front numeral
   run_past n acc b s l h =
       let g : top < numeral base (acc * base + digit b) (front (is_digit base) s) = omega (arith, grows (front (is_digit base) s) (acc * base + digit b)) in
@@ -95,20 +63,20 @@ module _ (base top : ℕ) (pos_base : 0 < base) where
       let q : (k : ℕ) → n + suc k ≡ n + 1 + k = λ k. omega arith in
       rw (lt-ltb (digit b) base l, q (length (front (is_digit base) s)))
 
-  module _ (s : List ℕ) (acc i d : ℕ) (o : Run) (inv : o ≡ run_after base top i acc (drop i s)) (is : d ≡ digit (get_or s i 0)) (h : i < length s) where
+  module _ (s : List ℕ) (acc i d : ℕ) (o : Option Digits) (inv : o ≡ run_after base top i acc (drop i s)) (is : d ≡ digit (get_or s i 0)) (h : i < length s) where
     here : o ≡ run_after base top i acc (get_or s i 0 ∷ drop (suc i) s)
     here = inv ∙ rw (drop-cons s i 0 h)
 
-    pub run-stop : acc ≤ top → base ≤ d → RunIs i acc ≡ o
+    pub run-stop : acc ≤ top → base ≤ d → some (run i acc) ≡ o
     run-stop k l = sym (here ∙ run-halt i acc (get_or s i 0) (drop (suc i) s) k (rw is at l))
 
-    pub run-over : d < base → top < acc * base + d → RunOver ≡ o
+    pub run-over : d < base → top < acc * base + d → none ≡ o
     run-over l k = sym (here ∙ run_past i acc (get_or s i 0) (drop (suc i) s) (rw is at l) (rw is at k))
 
     pub run_more : d < base → o ≡ run_after base top (i + 1) (acc * base + d) (drop (i + 1) s)
     run_more l = here ∙ run-next i acc (get_or s i 0) (drop (suc i) s) (rw is at l) ∙ rw (add-one i, is)
 
-  pub run_end : (s : List ℕ) (acc i : ℕ) (o : Run) → o ≡ run_after base top i acc (drop i s) → acc ≤ top → length s ≤ i → RunIs i acc ≡ o
+  pub run_end : (s : List ℕ) (acc i : ℕ) (o : Option Digits) → o ≡ run_after base top i acc (drop i s) → acc ≤ top → length s ≤ i → some (run i acc) ≡ o
   run_end s acc i o e h l = sym (e ∙ rw (drop_of_length-le s l) (run-nil i acc h))
 
 -- quotient and remainder tell whether there is room
@@ -155,31 +123,35 @@ module _ (acc d most last : ℕ) where
   pub fit_equal : most ≤ acc → acc ≤ most → leb d last ≡ fitting acc d most last
   fit_equal h l = rw (le-ltb acc most h, eq-eqb acc most (omega arith))
 
+abbrev told : Option Digits → Digits
+told none = run 0 0
+told (some d) = d
+
 -- what a run says of the digits at the front
 pub record RunSays (base top : ℕ) (s : List ℕ) (n v : ℕ) : Type 0 where
   pub count : n ≡ length (front (is_digit base) s)
   pub number : v ≡ numeral base 0 (front (is_digit base) s)
   pub within : v ≤ top
 
-module _ (base top : ℕ) (s : List ℕ) (r : Run) (read : r ≡ run_of base top s) where
-  pub run-says : (n v : ℕ) → r ≡ RunIs n v → RunSays base top s n v
+module _ (base top : ℕ) (s : List ℕ) (r : Option Digits) (read : r ≡ run_of base top s) where
+  pub run-says : (n v : ℕ) → r ≡ some (run n v) → RunSays base top s n v
   unfolding run_after
   run-says n v e = go (leb (numeral base 0 (front (is_digit base) s)) top) refl (sym e ∙ read)
     where
       go : (t : Bool) → leb (numeral base 0 (front (is_digit base) s)) top ≡ t
-          → RunIs n v ≡ cond t (RunIs (0 + length (front (is_digit base) s)) (numeral base 0 (front (is_digit base) s))) RunOver → RunSays base top s n v
+          → some (run n v) ≡ cond t (some (run (0 + length (front (is_digit base) s)) (numeral base 0 (front (is_digit base) s)))) none → RunSays base top s n v
       go true q f =
-          let a : n ≡ 0 + length (front (is_digit base) s) = cc in
-          let b : v ≡ numeral base 0 (front (is_digit base) s) = cc in
+          let a : n ≡ 0 + length (front (is_digit base) s) = ap (λ o. (told o).count) f in
+          let b : v ≡ numeral base 0 (front (is_digit base) s) = ap (λ o. (told o).value) f in
           record { count = a ∙ zero-add (length (front (is_digit base) s)); number = b; within = rw b (leb-true (numeral base 0 (front (is_digit base) s)) top q) }
       go false q f = never (cc)
 
-  pub run-past-top : r ≡ RunOver → top < numeral base 0 (front (is_digit base) s)
+  pub run-past-top : r ≡ none → top < numeral base 0 (front (is_digit base) s)
   unfolding run_after
   run-past-top e = go (leb (numeral base 0 (front (is_digit base) s)) top) refl (sym e ∙ read)
     where
       go : (t : Bool) → leb (numeral base 0 (front (is_digit base) s)) top ≡ t
-          → RunOver ≡ cond t (RunIs (0 + length (front (is_digit base) s)) (numeral base 0 (front (is_digit base) s))) RunOver → top < numeral base 0 (front (is_digit base) s)
+          → none ≡ cond t (some (run (0 + length (front (is_digit base) s)) (numeral base 0 (front (is_digit base) s)))) none → top < numeral base 0 (front (is_digit base) s)
       go true q f = never (cc)
       go false q f = leb-false (numeral base 0 (front (is_digit base) s)) top q
 
@@ -283,56 +255,39 @@ module _ (base top : ℕ) (s : List ℕ) where
       go [] h e = absurd (omega arith)
       go (b ∷ l) h e = rw (ne_eqb b 43 e)
 
--- ---- every leading `0x`
-module _ (s : List ℕ) (i : ℕ) (inv : bare s ≡ bare (drop i s)) where
-  two : 2 ≤ length s - i → drop i s ≡ get_or s i 0 ∷ get_or s (i + 1) 0 ∷ drop (i + 2) s
-  two h =
-      let a : i < length s = omega arith in
-      let b : suc i < length s = omega arith in
-      rw (add-one, add-two, drop-cons s i 0 a, drop-cons s (suc i) 0 b)
+-- ---- every `0x` in front
+both-so : (t u : Bool) → t && (u && true) ≡ true → t && u ≡ true
+both-so true true e = refl
+both-so true false e = never (cc)
+both-so false u e = never (cc)
 
-  pub bare-more : 2 ≤ length s - i → get_or s i 0 ≡ 48 → get_or s (i + 1) 0 ≡ 120 → bare s ≡ bare (drop (i + 2) s)
-  unfolding bare
-  bare-more h e f = inv ∙ rw (two h, eq-eqb (get_or s i 0) 48 e, eq-eqb (get_or s (i + 1) 0) 120 f)
+not-both : (t u : Bool) → t && (u && true) ≡ false → t && u ≡ false
+not-both true true e = never (cc)
+not-both true false e = refl
+not-both false u e = refl
 
-  whole : take (length s - i) (drop i s) ≡ drop i s
-  whole = take_all (length s - i) (drop i s) (rw (length-drop i s) (omega arith))
+pub bare-past : (s r : List ℕ) → pointwise eqb (take 2 s) (48 ∷ 120 ∷ []) ≡ true → r ≡ drop 2 s → bare s ≡ bare r
+unfolding bare
+bare-past [] r e f = never (cc)
+bare-past (a ∷ []) r e f = go (eqb a 48) e
+  where
+    go : (t : Bool) → t && false ≡ true → bare (a ∷ []) ≡ bare r
+    go true g = never (cc)
+    go false g = never (cc)
+bare-past (a ∷ b ∷ s) r e f = rw (both-so (eqb a 48) (eqb b 120) e, f)
 
-  pub bare-first : 2 ≤ length s - i → (get_or s i 0 ≡ 48 → ⊥) → take (length s - i) (drop i s) ≡ bare s
-  unfolding bare
-  bare-first h e = whole ∙ sym (inv ∙ rw (two h, ne_eqb (get_or s i 0) 48 e))
-
-  pub bare-second : 2 ≤ length s - i → (get_or s (i + 1) 0 ≡ 120 → ⊥) → take (length s - i) (drop i s) ≡ bare s
-  unfolding bare
-  bare-second h e = whole ∙ sym (inv ∙ rw (two h, ne_eqb (get_or s (i + 1) 0) 120 e) (go (eqb (get_or s i 0) 48)))
-    where
-      go : (t : Bool) → cond (t && false) (bare (drop (i + 2) s)) (get_or s i 0 ∷ get_or s (i + 1) 0 ∷ drop (i + 2) s) ≡ get_or s i 0 ∷ get_or s (i + 1) 0 ∷ drop (i + 2) s
-      go true = refl
-      go false = refl
-
-  pub bare-end : length s - i < 2 → take (length s - i) (drop i s) ≡ bare s
-  unfolding bare
-  bare-end h = whole ∙ sym (inv ∙ go (drop i s) (rw (length-drop i s) h))
-    where
-      go : (l : List ℕ) → length l < 2 → bare l ≡ l
-      go [] h = refl
-      go (a ∷ []) h = refl
-      go (a ∷ b ∷ l) h = absurd (omega arith)
-
--- ---- a position
-module _ (s : List ℕ) (n : Number) (read : value_in n ≡ hex top_position s) where
-  pub position-hex : (v : ℕ) → n ≡ Is v → some v ≡ position_of s
-  position-hex v e = rw (← read, e)
-
-  pub position-dec : (m : Number) → n ≡ Bad → value_in m ≡ unsigned 10 top_position s → value_in m ≡ position_of s
-  position-dec m e f = rw (← read, e) f
+pub bare-as-is : (s : List ℕ) → pointwise eqb (take 2 s) (48 ∷ 120 ∷ []) ≡ false → s ≡ bare s
+unfolding bare
+bare-as-is [] e = refl
+bare-as-is (a ∷ []) e = refl
+bare-as-is (a ∷ b ∷ s) e = rw (not-both (eqb a 48) (eqb b 120) e)
 
 -- ---- a run that is the whole part
-module _ (r : Run) (n base top : ℕ) (s : List ℕ) (pos_base : 0 < base) (read : r ≡ run_of base top s) (long : n ≡ length s) where
-  pub whole-over : r ≡ RunOver → none ≡ digits base top s
+module _ (r : Option Digits) (n base top : ℕ) (s : List ℕ) (pos_base : 0 < base) (read : r ≡ run_of base top s) (long : n ≡ length s) where
+  pub whole-over : r ≡ none → none ≡ digits base top s
   whole-over e = digits-over base top pos_base s (run-past-top base top s r read e)
 
-  module _ (k v : ℕ) (e : r ≡ RunIs k v) where
+  module _ (k v : ℕ) (e : r ≡ some (run k v)) where
     pub whole-none : k ≡ 0 → none ≡ digits base top s
     whole-none z = digits-none base top pos_base s (sym (run-says base top s r read k v e).count ∙ z)
 

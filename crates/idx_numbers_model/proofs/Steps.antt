@@ -3,24 +3,22 @@ use Prim.Native.Nat.{ℕ, suc, ◌+◌, ◌-◌, ◌≤◌, ◌<◌, zero, ◌*�
 use mathlib.Core.Path.{◌≡◌, refl, sym, ap, ◌∙◌, ap₂}
 use mathlib.Core.Bool.{Bool, true, false, not, ◌&&◌}
 use mathlib.Core.Logic.{inl, inr, ◌⊎◌, ⊎_elim}
-use mathlib.Core.Option.{Option, some, none}
+use Rattle.std.specs.Prelude.{Option, Some as some, None as none}
 use mathlib.Core.List.{List, [], ◌∷◌, ◌++◌, append-nil}
 use native.Mathlib.Omega.{arith}
 use native.Mathlib.Numerals.{add-one}
-use lib.ListN.{length, get_or, take, drop, drop_of_length-le, length-drop, length-append, take-append-drop, get_or-eq_default}
+use lib.ListN.{length, get_or, take, drop, drop_of_length-le, length-drop, length-append, get_or-eq_default}
 use lib.Seq.{drop-cons, take_all, drop-drop, drop-append_seam, get_or-take, length-take-le, take-append_seam}
 use lib.Dec.{eqb, ltb, leb}
-use borrow.Author.Tests.{eqb-true, eq-eqb, ne_eqb, eqb-false, ltb-true, leb-true, leb-false}
+use borrow.Author.Tests.{eqb-true, ltb-true, leb-true, leb-false}
 use Rattle.grammar.specs.IndexNumbers.{Unsigned}
 use Rattle.grammar.specs.IndexParts.{unlike, Span, Parted}
 use Rattle.grammar.specs.Parts.{Part}
-use Rattle.idx_numbers_model.specs.Answers.{value_in, lowest}
+use Rattle.idx_numbers_model.specs.Answers.{lowest}
 use Rattle.idx_numbers_model.specs.Numbers.{unsigned}
 use Rattle.idx_numbers_model.specs.Parts.{part, front, rest, split, strip, found, starts, all}
 use Rattle.idx_numbers_model.proofs.Grammar.{never, span-is, split-is, split_one, strip-is, unsigned_is, strip-on, none-strip}
 use Rattle.idx_numbers_model.proofs.Loops.{drop-front, front-le, take-front}
-use Rattle.idx_numbers_model.specs.declared.Number.{Number}
-use Rattle.idx_numbers_model.specs.declared.Number.TheVariants.{Is}
 
 pub other-false : (sep b : ℕ) → unlike sep b ≡ false → b ≡ sep
 other-false sep b e = go (eqb b sep) refl e
@@ -80,25 +78,7 @@ module _ (sep : ℕ) (s : List ℕ) (i n : ℕ) (inside : i ≤ length s) (lead 
       (split-next sep (at + i) (drop i s) (get_or s (i + n) 0) (drop (i + n + 1) s) (sym rest-is ∙ drop-cons s (i + n) 0 h ∙ rw (add-one (i + n)))
       ∙ rw q)
 
--- ---- a token_byte
-module _ (s w : List ℕ) (i : ℕ) (inv : starts w s ≡ starts (drop i w) (drop i s)) where
-  pub starts-end : length w ≤ i → true ≡ starts w s
-  unfolding strip
-  starts-end h = rw (inv, drop_of_length-le w h)
-
-  pub starts-short : i < length w → length s ≤ i → false ≡ starts w s
-  unfolding strip
-  starts-short h l = rw (inv, drop-cons w i 0 h, drop_of_length-le s l)
-
-  pub starts-differ : i < length w → i < length s → (get_or s i 0 ≡ get_or w i 0 → ⊥) → false ≡ starts w s
-  unfolding strip
-  starts-differ h l n = rw (inv, drop-cons w i 0 h, drop-cons s i 0 l, ne_eqb (get_or s i 0) (get_or w i 0) n)
-
-  pub starts_more : i < length w → i < length s → get_or s i 0 ≡ get_or w i 0 → starts w s ≡ starts (drop (i + 1) w) (drop (i + 1) s)
-  unfolding strip
-  starts_more h l e = rw (inv, drop-cons w i 0 h, drop-cons s i 0 l, eq-eqb (get_or s i 0) (get_or w i 0) e, add-one)
-
--- a token_byte that was found, and what follows it
+-- ---- a word that was found, and what follows it
 pub found-is : (w s : List ℕ) → found (strip w s) ≡ true → (strip w s ≡ some (drop (length w) s)) × (length w ≤ length s)
 found-is w s e = go (strip w s) refl e
   where
@@ -109,8 +89,8 @@ found-is w s e = go (strip w s) refl e
         (ap some (sym (ap (drop (length w)) f ∙ drop-append_seam w r)), omega (arith, ap length f, length-append w r))
 
 -- a number is at most its bound
-pub value_le : (base top : ℕ) (s : List ℕ) (n : Number) (v : ℕ) → value_in n ≡ unsigned base top s → n ≡ Is v → v ≤ top
-value_le base top s n v e f = go (unsigned_is base top s v (sym e ∙ ap value_in f))
+pub value_le : (base top : ℕ) (s : List ℕ) (n : Option ℕ) (v : ℕ) → n ≡ unsigned base top s → n ≡ some v → v ≤ top
+value_le base top s n v e f = go (unsigned_is base top s v (sym e ∙ f))
   where
     go : Unsigned base top s v → v ≤ top
     go (inl h) = h.within
@@ -175,13 +155,6 @@ module _ (w l : List ℕ) (fits : length w ≤ length l) (low : (i : ℕ) → ge
 
   pub word-other : (n ≡ lowest w → ⊥) → (r : List ℕ) → l ≡ w ++ r → ⊥
   word-other h r e = h (is ∙ ap lowest (ap (take (length w)) e ∙ take-append_seam w r))
-
-  pub word-whole : (k : ℕ) → k ≡ lowest w → eqb n k ≡ starts w l
-  word-whole k q = go (eqb n k) refl
-    where
-      go : (t : Bool) → eqb n k ≡ t → t ≡ starts w l
-      go true e = sym (starts-yes w l (drop (length w) l) (sym (take-append-drop (length w) l) ∙ ap (λ (x : List ℕ). x ++ drop (length w) l) (word-front (eqb-true n k e ∙ q))))
-      go false e = sym (starts-no w l (word-other (λ f. eqb-false n k e (f ∙ sym q))))
 
 -- ---- eight bytes in turn
 module _ (s : List ℕ) (i : ℕ) where

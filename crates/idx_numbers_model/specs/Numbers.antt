@@ -1,6 +1,6 @@
 -- Numbers of the index text as functions of bytes (FORMAT 1.3, 1.8). Assumes nothing: these are definitions.
 use Rattle.std.specs.Prelude.{ℕ, ◌-◌, ◌^◌, cond, ◌&&◌, List, [], ◌∷◌, leb, eqb, ℤ, pos, neg_ℤ}
-use Rattle.std.proofs.Math.Option.{Option, some, none}
+use Rattle.std.specs.Prelude.{Option, Some as some, None as none}
 use Rattle.grammar.specs.IndexNumbers.{is_digit, numeral, top_position}
 use Rattle.idx_numbers_model.specs.Parts.{all}
 

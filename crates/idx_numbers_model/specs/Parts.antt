@@ -1,7 +1,7 @@
 -- Parts of the index text as functions of bytes: what is found, where the grammar has conditions (FORMAT 1.1, 1.2).
 -- What finds a part works on bytes alone; the place beside it only counts. Assumes nothing: these are definitions.
 use Rattle.std.specs.Prelude.{ℕ, suc, ◌+◌, Bool, true, false, cond, ◌&&◌, List, [], ◌∷◌, length, eqb}
-use Rattle.std.proofs.Math.Option.{Option, some, none}
+use Rattle.std.specs.Prelude.{Option, Some as some, None as none}
 use Rattle.grammar.specs.Parts.{Part}
 use Rattle.grammar.specs.IndexParts.{blank}
 use Rattle.grammar.specs.IndexNumbers.{Valued}

@@ -1,15 +1,13 @@
 -- The sum of a time, each step of which stays in signed 64 bits (FORMAT 1.7). Assumes nothing: these are definitions.
-use Rattle.std.specs.Prelude.{ℤ, pos, ◌+ℤ◌, ◌*ℤ◌}
+use Rattle.std.specs.Prelude.{Option, Some as some, None as none, ℤ, pos, ◌+ℤ◌, ◌*ℤ◌}
 use Rattle.clock_model.specs.Sums.{checked}
-use Rattle.clock_model.specs.declared.Num.{Num}
-use Rattle.clock_model.specs.declared.Num.TheVariants.{Over, Is}
 
-abbrev pub and_then : Num → (ℤ → Num) → Num
-and_then Over k = Over
-and_then (Is z) k = k z
+abbrev pub and_then : Option ℤ → (ℤ → Option ℤ) → Option ℤ
+and_then none k = none
+and_then (some z) k = k z
 
 -- (((h·60)+m)·60+s)·1,000,000 + ms·1,000, where each step stays in signed 64 bits
-abbrev pub micros_of : ℤ → ℤ → ℤ → ℤ → Num
+abbrev pub micros_of : ℤ → ℤ → ℤ → ℤ → Option ℤ
 micros_of h m s ms =
     and_then (checked (h *ℤ pos 60))
     (λ a. and_then (checked (a +ℤ m))

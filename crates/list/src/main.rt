@@ -10,64 +10,39 @@ use std::io::Read;
 use std::rt::{Env, Files};
 use std::{fs, str};
 
-// What was read of a file.
-#[derive(Clone, Copy)]
-struct Bytes {
-    // Whether it was opened and no read of it failed.
-    there: bool,
-    // How many of its bytes are in the front of the buffer.
-    size: usize,
-}
-
-// What one read gives.
-fn read_some(file: &mut impl Read, buffer: &mut [u8]) -> Bytes
-    ensures within { result.size ≤ length buffer.new }
-    ensures front { result.size ≡ length (take result.size buffer.new) }
+// How many bytes one read gives, if it does not fail.
+fn read_some(file: &mut impl Read, buffer: &mut [u8]) -> Option<usize>
+    ensures within { IfSome result (λ n. n ≤ length buffer.new) }
+    ensures front { IfSome result (λ n. n ≡ length (take n buffer.new)) }
 {
-    match file.read(buffer) {
-        Ok(size) => Bytes { there: true, size },
-        Err(_) => Bytes {
-            there: false,
-            size: 0,
-        },
-    }
+    file.read(buffer).ok()
 }
 
-// Reads on until the buffer is full or the file ends. A read that fails, the first or a later one, is no end of the file.
-fn read_all(file: &mut impl Read, buffer: &mut [u8]) -> Bytes
-    ensures within { result.size ≤ length buffer.new }
-    ensures front { result.size ≡ length (take result.size buffer.new) }
+// Reads on until the buffer is full or the file ends; each turn goes on behind what was read. A read that fails, the first or a later one, is
+// no end of the file.
+fn read_all(file: &mut impl Read, buffer: &mut [u8]) -> Option<usize>
+    ensures within { IfSome result (λ n. n ≤ length buffer.new) }
+    ensures front { IfSome result (λ n. n ≡ length (take n buffer.new)) }
 {
     let mut size = 0;
     while size < buffer.len() {
-        let more = read_some(file, &mut buffer[size..]);
-        if !more.there {
-            return Bytes { there: false, size };
+        let more = read_some(file, &mut buffer[size..])?;
+        if more == 0 {
+            return Some(size);
         }
-        if more.size == 0 {
-            return Bytes { there: true, size };
-        }
-        size += more.size;
+        size += more;
     }
-    Bytes { there: true, size }
+    Some(size)
 }
 
-// As many bytes of a file as the buffer holds. One longer than the longest file that is listed, it tells a file that is too long. A path that is
-// no UTF-8 names no file.
-fn read_file(rt: &impl Files, path: &[u8], buffer: &mut [u8]) -> Bytes
-    ensures within { result.size ≤ length buffer.new }
-    ensures front { result.size ≡ length (take result.size buffer.new) }
+// How many bytes of a file are in the front of the buffer, if it was opened and no read of it failed. More than the longest file that
+// is listed has tell a file that is too long. A path that is no UTF-8 names no file.
+fn read_file(rt: &impl Files, path: &[u8], buffer: &mut [u8]) -> Option<usize>
+    ensures within { IfSome result (λ n. n ≤ length buffer.new) }
+    ensures front { IfSome result (λ n. n ≡ length (take n buffer.new)) }
 {
-    let unread = Bytes {
-        there: false,
-        size: 0,
-    };
-    let Ok(name) = str::from_utf8(path) else {
-        return unread;
-    };
-    let Ok(mut file) = fs::open(rt, name) else {
-        return unread;
-    };
+    let name = str::from_utf8(path).ok()?;
+    let mut file = fs::open(rt, name).ok()?;
     read_all(&mut file, buffer)
 }
 
@@ -80,11 +55,9 @@ fn say(rt: &impl Print, s: &[u8]) {
 fn write_cues(rt: &impl Print, file: &[u8], starts: &[i64], positions: &[u32], cues: usize) {
     let mut scratch = [0u8; 65536];
     let mut line = [0u8; 256];
-    let mut n = 0;
-    while n < cues {
+    for n in 0..cues {
         let size = listing::cue_line(file, starts, positions, cues, n, &mut scratch, &mut line);
         say(rt, &line[..size]);
-        n += 1;
     }
 }
 
@@ -95,9 +68,9 @@ fn list_title(rt: &(impl Files + Print), index: &[u8], file: &[u8]) {
     let mut bytes = [0u8; 65537];
     let a = read_file(rt, index, &mut text);
     let b = read_file(rt, file, &mut bytes);
-    let there = if a.there { b.there } else { false };
-    let n = a.size;
-    let m = b.size;
+    let there = a.is_some() && b.is_some();
+    let n = a.unwrap_or(0);
+    let m = b.unwrap_or(0);
     let mut starts = [0i64; 65537];
     let mut positions = [0u32; 65537];
     let mut line = [0u8; 256];
@@ -109,8 +82,7 @@ fn list_title(rt: &(impl Files + Print), index: &[u8], file: &[u8]) {
         &mut positions,
         &mut line,
     );
-    let size = head.size;
-    say(rt, &line[..size]);
+    say(rt, &line[..head.size]);
     write_cues(rt, &bytes[..m], &starts, &positions, head.cues);
 }
 
@@ -125,28 +97,24 @@ fn argument(rt: &impl Env, i: usize, buffer: &mut [u8]) -> Option<usize>
     }
 }
 
-// The title whose paths are arguments i and j, and whether there is an argument i.
-fn list_row(rt: &(impl Env + Files + Print), i: usize, j: usize) -> bool {
+// The title whose paths are arguments i and j, if there is an argument i.
+fn list_row(rt: &(impl Env + Files + Print), i: usize, j: usize) -> Option<()> {
     let mut index = [0u8; 4096];
-    let Some(n) = argument(rt, i, &mut index) else {
-        return false;
-    };
+    let n = argument(rt, i, &mut index)?;
     let mut file = [0u8; 4096];
     let m = argument(rt, j, &mut file).unwrap_or(0);
     say(rt, &index[..n]);
     say(rt, b"\n");
     list_title(rt, &index[..n], &file[..m]);
-    true
+    Some(())
 }
 
 // At most 1,000 arguments.
 fn list_arguments(rt: &(impl Env + Files + Print)) {
-    let mut k = 1;
-    while k <= 1000 {
-        if !list_row(rt, k, k + 1) {
+    for k in (1..=1000).step_by(2) {
+        if list_row(rt, k, k + 1).is_none() {
             return;
         }
-        k += 2;
     }
 }
 

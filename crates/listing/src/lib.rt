@@ -1,21 +1,23 @@
 // The lines of the list program, each put into a lent line (docs/FORMAT.md, section 8).
 #![tactic(auto)]
 
-ghost use Rattle.std.specs.Prelude.{◌≡◌, ◌+◌, ◌≤◌, ◌<◌, length};
+ghost use Rattle.std.specs.Prelude.{◌≡◌, ◌+◌, ◌≤◌, [], ◌∷◌, ◌++◌, length};
 ghost use Rattle.std.proofs.lemmas.List.Edits.{sets};
+ghost use Rattle.outcome.specs.Outcome.{answered, number_of};
 ghost use Rattle.grammar.specs.Packets.{stream_id};
+ghost use Rattle.clock_model.specs.Clock.{unit_in_time};
 ghost use Rattle.ps_model.specs.Packets.{form_at};
-ghost use Rattle.ps_model.specs.Answers.{unit_part, unit_stored};
-ghost use Rattle.listing_model.specs.Lines.{decimal, signed, lasting, field, newline, times, area, delays, shown_line, refused_line, cues_line, index_line, file_line};
-ghost use Rattle.listing_model.specs.Title.{list_stream, form_for, cue_line};
-ghost use Rattle.listing_model.specs.Answers.{Put, Written, duration_is, record_shown, unit_line, position_line, table_of, Exactly, Undisturbed, Headed};
+ghost use Rattle.ps_model.specs.Answers.{unit_stored};
+ghost use Rattle.spu_model.specs.Unit.{unit_at};
+ghost use Rattle.spu_model.specs.Answers.{spu_answer};
+ghost use Rattle.listing_model.specs.Lines.{decimal, signed, lasting, field, newline, times, area, delays, shown_line, refused_line};
+ghost use Rattle.listing_model.specs.Title.{list_stream, timed_for, form_for, cue_line};
+ghost use Rattle.listing_model.specs.Answers.{Put, Written, record_shown, position_line, table_of, Exactly, Undisturbed, Headed};
 
-use clock_model::{Micros, TimesAnswer};
+use clock_model::Micros;
 use control_model::Spu;
 use listing_model::Head;
-use outcome::{NO_CUE, lesser};
-use ps_model::UnitAnswer;
-use spu_model::SpuAnswer;
+use outcome::Refusal;
 
 // The longest file that is read.
 const MOST: usize = 65536;
@@ -23,258 +25,230 @@ const MOST: usize = 65536;
 // The stream whose units are listed.
 const STREAM: usize = 0;
 
-// The digits of n, the most significant first.
-fn put_decimal(n: u64, line: &mut [u8; 256], at: usize) -> usize
-    requires { at + length (decimal n) ≤ 256 }
-    ensures { Put (length (decimal n)) line.old at (decimal n) result line.new }
-{
-    if n < 10 {
-        line[at] = 48 + n as u8;
-        return at + 1;
+// A lent line, and how many bytes of it are written.
+#[derive(Drop)]
+struct Line<'a> {
+    bytes: &'a mut [u8; 256],
+    len: usize,
+    ghost inside: { len ≤ 256 },
+}
+
+// Each method writes behind what is there, and the line stays the one that was lent.
+impl<'a> Line<'a> {
+    fn new(bytes: &'a mut [u8; 256]) -> Line<'a>
+        ensures empty { (result.len ≡ 0) × (result.bytes.now ≡ bytes.old) }
+        ensures same_line { result.bytes.ghost_name ≡ bytes.entry.ghost_name }
+    {
+        Line { bytes, len: 0 }
     }
-    let end = put_decimal(n / 10, line, at);
-    line[end] = 48 + (n % 10) as u8;
-    end + 1
-}
 
-// A number of 64 bits has at most 20 digits.
-fn put_number(n: u64, line: &mut [u8; 256], at: usize) -> usize
-    requires { at + 20 ≤ 256 }
-    ensures { Put 20 line.old at (decimal n) result line.new }
-{
-    put_decimal(n, line, at)
-}
-
-// A number below 0 has a `-` and at most 19 digits.
-// Ruled out: the least number of 64 bits negated in its own type.
-fn put_signed(z: i64, line: &mut [u8; 256], at: usize) -> usize
-    requires { at + 20 ≤ 256 }
-    ensures { Put 20 line.old at (signed z) result line.new }
-{
-    if z < 0 {
-        line[at] = b'-';
-        let n = (-1 - z) as u64;
-        return put_decimal(n + 1, line, at + 1);
+    fn put_byte(&mut self, b: u8)
+        requires { self.old.len + 1 ≤ 256 }
+        ensures put { Put 1 self.old.bytes.now self.old.len (b ∷ []) self.new.len self.new.bytes.now }
+        ensures same_line { self.new.bytes.ghost_name ≡ self.old.bytes.ghost_name }
+    {
+        self.bytes[self.len] = b;
+        self.len += 1;
     }
-    put_decimal(z as u64, line, at)
-}
 
-fn put_field(n: u64, line: &mut [u8; 256], at: usize) -> usize
-    requires { at + 21 ≤ 256 }
-    ensures { Put 21 line.old at (field (decimal n)) result line.new }
-{
-    line[at] = b' ';
-    put_number(n, line, at + 1)
-}
-
-fn put_signed_field(z: i64, line: &mut [u8; 256], at: usize) -> usize
-    requires { at + 21 ≤ 256 }
-    ensures { Put 21 line.old at (field (signed z)) result line.new }
-{
-    line[at] = b' ';
-    put_signed(z, line, at + 1)
-}
-
-fn put_lasting(lasts: bool, duration: u64, line: &mut [u8; 256], at: usize) -> usize
-    requires { at + 21 ≤ 256 }
-    ensures { Put 21 line.old at (field (lasting (duration_is lasts duration))) result line.new }
-{
-    if lasts {
-        return put_field(duration, line, at);
+    fn put_newline(&mut self)
+        requires { self.old.len + 1 ≤ 256 }
+        ensures put { Put 1 self.old.bytes.now self.old.len newline self.new.len self.new.bytes.now }
+        ensures same_line { self.new.bytes.ghost_name ≡ self.old.bytes.ghost_name }
+    {
+        self.put_byte(b'\n');
     }
-    line[at] = b' ';
-    line[at + 1] = b'-';
-    at + 2
-}
 
-fn put_newline(line: &mut [u8; 256], at: usize) -> usize
-    requires { at + 1 ≤ 256 }
-    ensures { Put 1 line.old at newline result line.new }
-{
-    line[at] = 10;
-    at + 1
-}
-
-fn put_word(word: &[u8], line: &mut [u8; 256], at: usize) -> usize
-    requires { at + length word.now ≤ 256 }
-    ensures { Put (length word.now) line.old at word.now result line.new }
-{
-    let mut i = 0;
-    while i < word.len() {
-        line[at + i] = word[i];
-        i += 1;
+    fn put_word(&mut self, word: &[u8])
+        requires { self.old.len + length word.now ≤ 256 }
+        ensures put { Put (length word.now) self.old.bytes.now self.old.len word.now self.new.len self.new.bytes.now }
+        ensures same_line { self.new.bytes.ghost_name ≡ self.old.bytes.ghost_name }
+    {
+        let end = self.len + word.len();
+        let bytes = &mut *self.bytes;
+        bytes[self.len..end].copy_from_slice(word);
+        self.len = end;
     }
-    at + i
+
+    // The digits of n, the most significant first.
+    fn put_decimal(&mut self, n: u64)
+        requires { self.old.len + length (decimal n) ≤ 256 }
+        ensures put { Put (length (decimal n)) self.old.bytes.now self.old.len (decimal n) self.new.len self.new.bytes.now }
+        ensures same_line { self.new.bytes.ghost_name ≡ self.old.bytes.ghost_name }
+    {
+        if n < 10 {
+            return self.put_byte(48 + n as u8);
+        }
+        self.put_decimal(n / 10);
+        self.put_byte(48 + (n % 10) as u8);
+    }
+
+    // A number of 64 bits has at most 20 digits.
+    #[tactic(auto, using(listing_model::proofs::Laws::number_short))]
+    fn put_number(&mut self, n: u64)
+        requires { self.old.len + 20 ≤ 256 }
+        ensures put { Put 20 self.old.bytes.now self.old.len (decimal n) self.new.len self.new.bytes.now }
+        ensures same_line { self.new.bytes.ghost_name ≡ self.old.bytes.ghost_name }
+    {
+        self.put_decimal(n);
+    }
+
+    // A number below 0 has a `-` and at most 19 digits.
+    // Ruled out: the least number of 64 bits negated in its own type.
+    fn put_signed(&mut self, z: i64)
+        requires { self.old.len + 20 ≤ 256 }
+        ensures put { Put 20 self.old.bytes.now self.old.len (signed z) self.new.len self.new.bytes.now }
+        ensures same_line { self.new.bytes.ghost_name ≡ self.old.bytes.ghost_name }
+    {
+        if z < 0 {
+            self.put_byte(b'-');
+        }
+        self.put_decimal(z.unsigned_abs());
+    }
+
+    fn put_lasting(&mut self, duration: Option<u64>)
+        requires { self.old.len + 20 ≤ 256 }
+        ensures put { Put 20 self.old.bytes.now self.old.len (lasting duration) self.new.len self.new.bytes.now }
+        ensures same_line { self.new.bytes.ghost_name ≡ self.old.bytes.ghost_name }
+    {
+        match duration {
+            Some(micros) => self.put_number(micros),
+            None => self.put_byte(b'-'),
+        }
+    }
+
+    fn put_field(&mut self, n: u64)
+        requires { self.old.len + 21 ≤ 256 }
+        ensures put { Put 21 self.old.bytes.now self.old.len (field (decimal n)) self.new.len self.new.bytes.now }
+        ensures same_line { self.new.bytes.ghost_name ≡ self.old.bytes.ghost_name }
+    {
+        self.put_byte(b' ');
+        self.put_number(n);
+    }
+
+    // Number, start and duration.
+    fn put_times(&mut self, n: u64, start: i64, duration: Option<u64>)
+        requires { self.old.len + 62 ≤ 256 }
+        ensures put { Put 62 self.old.bytes.now self.old.len (times n start duration) self.new.len self.new.bytes.now }
+        ensures same_line { self.new.bytes.ghost_name ≡ self.old.bytes.ghost_name }
+    {
+        self.put_number(n);
+        self.put_byte(b' ');
+        self.put_signed(start);
+        self.put_byte(b' ');
+        self.put_lasting(duration);
+    }
+
+    // Ruled out: width and height in each other's place.
+    fn put_area(&mut self, x1: u64, y1: u64, width: u64, height: u64)
+        requires { self.old.len + 84 ≤ 256 }
+        ensures put { Put 84 self.old.bytes.now self.old.len (area x1 y1 width height) self.new.len self.new.bytes.now }
+        ensures same_line { self.new.bytes.ghost_name ≡ self.old.bytes.ghost_name }
+    {
+        self.put_field(x1);
+        self.put_field(y1);
+        self.put_field(width);
+        self.put_field(height);
+    }
+
+    // Both delays and the number of codes, and the end of the line.
+    // Ruled out: the delay of the stop before that of the start.
+    fn put_delays(&mut self, start: u64, stop: u64, codes: u64)
+        requires { self.old.len + 64 ≤ 256 }
+        ensures put { Put 64 self.old.bytes.now self.old.len (delays start stop codes) self.new.len self.new.bytes.now }
+        ensures same_line { self.new.bytes.ghost_name ≡ self.old.bytes.ghost_name }
+    {
+        self.put_field(start);
+        self.put_field(stop);
+        self.put_field(codes);
+        self.put_newline();
+    }
+
+    // The line of a cue with these times and the record s.
+    fn put_shown(&mut self, n: usize, start: i64, duration: Option<u64>, s: Spu)
+        requires { (s.x1 ≤ s.x2) × (s.y1 ≤ s.y2) × (self.old.len + 210 ≤ 256) }
+        ensures put { Put 210 self.old.bytes.now self.old.len (shown_line n (record_shown start duration s)) self.new.len self.new.bytes.now }
+        ensures same_line { self.new.bytes.ghost_name ≡ self.old.bytes.ghost_name }
+    {
+        // a record's size is worked out where it is wanted: its crate is a model, which has no function
+        let width = s.x2 as u64 + 1 - s.x1 as u64;
+        let height = s.y2 as u64 + 1 - s.y1 as u64;
+        self.put_times(n as u64, start, duration);
+        self.put_area(s.x1 as u64, s.y1 as u64, width, height);
+        self.put_delays(
+            s.start_delay_raw.0 as u64,
+            s.stop_delay_raw.0 as u64,
+            s.codes as u64,
+        );
+    }
+
+    // A word, a number and the end of the line.
+    fn put_numbered(&mut self, word: &[u8], n: u64)
+        requires { self.old.len + (length word.now + 22) ≤ 256 }
+        ensures put { Put (length word.now + 22) self.old.bytes.now self.old.len (word.now ++ (field (decimal n) ++ newline)) self.new.len self.new.bytes.now }
+        ensures same_line { self.new.bytes.ghost_name ≡ self.old.bytes.ghost_name }
+    {
+        self.put_word(word);
+        self.put_field(n);
+        self.put_newline();
+    }
+
+    // The line of a cue that is refused.
+    fn put_refused(&mut self, n: usize, refusal: Refusal)
+        requires { self.old.len + 210 ≤ 256 }
+        ensures put { Put 210 self.old.bytes.now self.old.len (refused_line n (number_of refusal)) self.new.len self.new.bytes.now }
+        ensures same_line { self.new.bytes.ghost_name ≡ self.old.bytes.ghost_name }
+    {
+        self.put_number(n as u64);
+        self.put_numbered(b" refused", refusal.number() as u64);
+    }
 }
 
-// Number, start and duration.
-fn put_times(
-    n: u64,
-    start: i64,
-    lasts: bool,
-    duration: u64,
-    line: &mut [u8; 256],
-    at: usize,
-) -> usize
-    requires { at + 62 ≤ 256 }
-    ensures { Put 62 line.old at (times n start (duration_is lasts duration)) result line.new }
-{
-    let a = put_number(n, line, at);
-    let b = put_signed_field(start, line, a);
-    put_lasting(lasts, duration, line, b)
-}
-
-// Ruled out: width and height in each other's place.
-fn put_area(x1: u64, y1: u64, width: u64, height: u64, line: &mut [u8; 256], at: usize) -> usize
-    requires { at + 84 ≤ 256 }
-    ensures { Put 84 line.old at (area x1 y1 width height) result line.new }
-{
-    let a = put_field(x1, line, at);
-    let b = put_field(y1, line, a);
-    let c = put_field(width, line, b);
-    put_field(height, line, c)
-}
-
-// Both delays and the number of codes, and the end of the line.
-// Ruled out: the delay of the stop before that of the start.
-fn put_delays(start: u64, stop: u64, codes: u64, line: &mut [u8; 256], at: usize) -> usize
-    requires { at + 64 ≤ 256 }
-    ensures { Put 64 line.old at (delays start stop codes) result line.new }
-{
-    let a = put_field(start, line, at);
-    let b = put_field(stop, line, a);
-    let c = put_field(codes, line, b);
-    put_newline(line, c)
-}
-
-// The line of a cue with these times and the record s.
-fn put_shown(
-    n: usize,
-    start: i64,
-    lasts: bool,
-    duration: u64,
-    s: Spu,
-    line: &mut [u8; 256],
-) -> usize
-    requires { (s.x1 ≤ s.x2) × (s.y1 ≤ s.y2) }
-    ensures { Put 210 line.old 0 (shown_line n (record_shown start (duration_is lasts duration) s)) result line.new }
-{
-    let width = s.x2 as usize + 1 - s.x1 as usize;
-    let height = s.y2 as usize + 1 - s.y1 as usize;
-    let a = put_times(n as u64, start, lasts, duration, line, 0);
-    let b = put_area(
-        s.x1 as u64,
-        s.y1 as u64,
-        width as u64,
-        height as u64,
-        line,
-        a,
-    );
-    let start_delay = s.start_delay_raw;
-    let stop_delay = s.stop_delay_raw;
-    put_delays(
-        start_delay.0 as u64,
-        stop_delay.0 as u64,
-        s.codes as u64,
-        line,
-        b,
-    )
-}
-
-// The line of a cue that is refused.
-fn put_refused(n: usize, number: u8, line: &mut [u8; 256]) -> usize
-    ensures { Put 210 line.old 0 (refused_line n number) result line.new }
-{
-    let a = put_number(n as u64, line, 0);
-    let b = put_word(b" refused", line, a);
-    let c = put_field(number as u64, line, b);
-    put_newline(line, c)
-}
-
-// The line of a cue with this start and duration and this unit.
+// The record of a unit of a cue with this start.
 // Ruled out: a cue listed whose show or hide time leaves.
-fn put_unit(
-    unit: &[u8],
-    n: usize,
-    start: Micros,
-    lasts: bool,
-    duration: u64,
-    line: &mut [u8; 256],
-) -> usize
-    ensures { Put 210 line.old 0 (unit_line n start.0 (duration_is lasts duration) unit.now) result line.new }
+fn measured_in_time(unit: &[u8], start: Micros) -> Result<Spu, Refusal>
+    ensures { answered result ≡ spu_answer (unit_in_time start.0 (unit_at unit.now)) }
 {
-    match spu::measure_spu(unit) {
-        SpuAnswer::Shows(s) => match clock::times_of(
-            start,
-            s.started,
-            s.start_delay_raw,
-            s.stopped,
-            s.stop_delay_raw,
-        ) {
-            TimesAnswer::Are(_) => put_shown(n, start.0, lasts, duration, s, line),
-            TimesAnswer::Refused(number) => put_refused(n, number, line),
-        },
-        SpuAnswer::Refused(number) => put_refused(n, number, line),
-    }
+    let spu = spu::measure_spu(unit)?;
+    let starts = spu.started.then_some(spu.start_delay_raw);
+    let stops = spu.stopped.then_some(spu.stop_delay_raw);
+    clock::times_of(start, starts, stops)?;
+    Ok(spu)
 }
 
-// The line of a cue whose unit was found.
-fn put_found<'a>(
-    file: &'a [u8],
-    scratch: &'a [u8],
-    unit: UnitAnswer,
+// The record of the unit at this position. A unit has at most 65,535 bytes, so scratch holds every one.
+fn measured_at(
+    file: &[u8],
     position: u32,
-    n: usize,
     start: Micros,
-    lasts: bool,
-    duration: u64,
-    line: &mut [u8; 256],
-) -> usize
-    ensures { Put 210 line.old 0 (unit_line n start.0 (duration_is lasts duration) (unit_part file.now scratch.now position unit)) result line.new }
+    scratch: &mut [u8; 65536],
+) -> Result<Spu, Refusal>
+    ensures { (answered result ≡ spu_answer (timed_for start.0 file.now position))
+        × (scratch.new ≡ sets scratch.old 0 (unit_stored (form_at (stream_id list_stream) file.now position))) }
 {
-    let bytes = ps::unit_part(file, scratch, position as usize, unit);
-    put_unit(bytes, n, start, lasts, duration, line)
+    let unit = ps::extract_spu(file, position as usize, STREAM, scratch)?;
+    let bytes = ps::unit_part(file, &scratch[..], position as usize, Ok(unit));
+    measured_in_time(bytes, start)
 }
 
-// The line of a cue with this start and duration and this position. A unit has at most 65,535 bytes, so scratch holds
-// every one.
+// The line of a cue with this start and duration and this position.
 fn put_cue(
     file: &[u8],
     position: u32,
     n: usize,
     start: Micros,
-    lasts: bool,
-    duration: u64,
+    duration: Option<u64>,
     scratch: &mut [u8; 65536],
-    line: &mut [u8; 256],
-) -> usize
-    ensures { (Put 210 line.old 0 (position_line n start.0 (duration_is lasts duration) file.now position) result line.new)
+    line: &mut Line,
+)
+    requires { line.old.len + 210 ≤ 256 }
+    ensures put { (Put 210 line.old.bytes.now line.old.len (position_line n start.0 duration file.now position) line.new.len line.new.bytes.now)
         × (scratch.new ≡ sets scratch.old 0 (unit_stored (form_at (stream_id list_stream) file.now position))) }
+    ensures same_line { line.new.bytes.ghost_name ≡ line.old.bytes.ghost_name }
 {
-    match ps::extract_spu(file, position as usize, STREAM, scratch) {
-        UnitAnswer::Bare(k) => put_found(
-            file,
-            &scratch[..],
-            UnitAnswer::Bare(k),
-            position,
-            n,
-            start,
-            lasts,
-            duration,
-            line,
-        ),
-        UnitAnswer::Joined(k) => put_found(
-            file,
-            &scratch[..],
-            UnitAnswer::Joined(k),
-            position,
-            n,
-            start,
-            lasts,
-            duration,
-            line,
-        ),
-        UnitAnswer::Refused(number) => put_refused(n, number, line),
+    match measured_at(file, position, start, scratch) {
+        Ok(spu) => line.put_shown(n, start.0, duration, spu),
+        Err(refusal) => line.put_refused(n, refusal),
     }
 }
 
@@ -296,49 +270,29 @@ pub fn cue_line(
         × (scratch.new ≡ sets scratch.old 0 (unit_stored (form_for (table_of starts.now positions.now cues) file.now n)))
         × Undisturbed (table_of starts.now positions.now cues) file.now n line.old scratch.old result line.new scratch.new }
 {
-    let size = lesser(cues, lesser(starts.len(), positions.len()));
+    let size = cues.min(starts.len()).min(positions.len());
+    let mut written = Line::new(line);
     if size <= n {
-        return put_refused(n, NO_CUE, line);
+        written.put_refused(n, Refusal::NoCue);
+        return written.len;
     }
-    let from = starts[n];
-    let start = Micros(from);
+    let start = Micros(starts[n]);
     let next = n + 1;
-    if next < size {
-        let to = starts[next];
-        let lasting = idx::duration_of(start, Micros(to));
-        let duration = clock::count_of(lasting);
-        return put_cue(file, positions[n], n, start, true, duration, scratch, line);
-    }
-    put_cue(file, positions[n], n, start, false, 0, scratch, line)
-}
-
-// `file refused`, and no cue.
-fn no_file(line: &mut [u8; 256]) -> Head
-    ensures { (Put 210 line.old 0 file_line result.size line.new) × (result.cues ≡ 0) }
-{
-    let a = put_word(b"file refused", line, 0);
-    let size = put_newline(line, a);
-    Head { size, cues: 0 }
-}
-
-// `index refused` with its number, and no cue.
-fn no_index(number: u8, line: &mut [u8; 256]) -> Head
-    ensures { (Put 210 line.old 0 (index_line number) result.size line.new) × (result.cues ≡ 0) }
-{
-    let a = put_word(b"index refused", line, 0);
-    let b = put_field(number as u64, line, a);
-    let size = put_newline(line, b);
-    Head { size, cues: 0 }
-}
-
-// `cues` with their number.
-fn counted(cues: usize, line: &mut [u8; 256]) -> Head
-    ensures { (Put 210 line.old 0 (cues_line cues) result.size line.new) × (result.cues ≡ cues) }
-{
-    let a = put_word(b"cues", line, 0);
-    let b = put_field(cues as u64, line, a);
-    let size = put_newline(line, b);
-    Head { size, cues }
+    let duration = if next < size {
+        Some(clock::count_of(idx::duration_of(start, Micros(starts[next]))))
+    } else {
+        None
+    };
+    put_cue(
+        file,
+        positions[n],
+        n,
+        start,
+        duration,
+        scratch,
+        &mut written,
+    );
+    written.len
 }
 
 // The first line of a title, and its cues in the front of both buffers. `there` says that both files are there; the index is read only
@@ -355,18 +309,29 @@ pub fn title_line(
 ) -> Head
     ensures { Headed there text.now file.now starts.old positions.old line.old result starts.new positions.new line.new }
 {
-    if !there {
-        return no_file(line);
+    let mut written = Line::new(line);
+    if !there || text.len() > MOST || file.len() > MOST {
+        written.put_word(b"file refused");
+        written.put_newline();
+        return Head {
+            size: written.len,
+            cues: 0,
+        };
     }
-    if text.len() > MOST {
-        return no_file(line);
+    match idx::parse_idx(text, starts, positions) {
+        Ok(index) => {
+            written.put_numbered(b"cues", index.cues as u64);
+            Head {
+                size: written.len,
+                cues: index.cues,
+            }
+        }
+        Err(refusal) => {
+            written.put_numbered(b"index refused", refusal.number() as u64);
+            Head {
+                size: written.len,
+                cues: 0,
+            }
+        }
     }
-    if file.len() > MOST {
-        return no_file(line);
-    }
-    let a = idx::parse_idx(text, starts, positions);
-    if a.refused != 0 {
-        return no_index(a.refused, line);
-    }
-    counted(a.cues, line)
 }

@@ -2,7 +2,7 @@
 use Prim.Native.Nat.{ℕ}
 use mathlib.Core.Path.{◌≡◌, refl}
 use mathlib.Core.Bool.{true, false}
-use mathlib.Core.Option.{some, none}
+use Rattle.std.specs.Prelude.{Some as some, None as none}
 use mathlib.Core.List.{List, [], ◌∷◌}
 use lib.IntN.{pos, negsuc}
 use Rattle.outcome.specs.Outcome.{refusal_of, no_unit, long_instant}

@@ -1,16 +1,16 @@
 -- Laws of digits and of bytes put into a line. Assumes nothing.
-use Prim.Native.Nat.{ℕ, zero, suc, ◌+◌, ◌*◌, ◌/◌, ◌%◌, ◌^◌, ◌≤◌, ◌<◌}
+use Prim.Native.Nat.{ℕ, zero, suc, ◌+◌, ◌-◌, ◌*◌, ◌/◌, ◌%◌, ◌^◌, ◌≤◌, ◌<◌}
 use native.Mathlib.Omega.{arith}
-use native.Mathlib.Numerals.{add-one}
 use native.Mathlib.Nat.{pow-succ'}
 use mathlib.Core.Path.{◌≡◌, refl, sym, ap, ◌∙◌, subst}
 use mathlib.Core.Bool.{Bool, true, false}
 use mathlib.Core.List.{List, [], ◌∷◌, ◌++◌}
 use lib.Dec.{ltb}
-use lib.ListN.{length, set, take, length-append}
+use lib.ListN.{length, take, length-append}
 use lib.Seq.{sets, length-sets, length-take-le}
+use borrow.Rule.Slice.PartMut.{put_mid}
 use borrow.Author.Tests.{ltb-true, ltb-false, lt-ltb, le-ltb}
-use Rattle.outcome.proofs.Laws.{sets-append, Copying, copying_ends}
+use Rattle.outcome.proofs.Laws.{sets-append, part_stored}
 use Rattle.listing_model.specs.Lines.{digits_in, decimal}
 use Rattle.listing_model.specs.Answers.{Put, Written}
 
@@ -66,23 +66,6 @@ put_put {k} {m} {l} {at} {a} {r} {l'} {b} {r'} {l''} p q =
       within = omega (arith, p.within, q.within);
     }
 
--- the first of them stored by itself
-pub put_cons : {k : ℕ} {l : List ℕ} {at b : ℕ} {a : List ℕ} {r : ℕ} {l' : List ℕ} → Put k (set l at b) (at + 1) a r l' → Put (1 + k) l at (b ∷ a) r l'
-put_cons {k} {l} {at} {b} {a} {r} {l'} p =
-    record {
-      next = omega (arith, p.next);
-      stored = p.stored ∙ ap (λ (i : ℕ). sets (set l at b) i a) (add-one at);
-      within = omega (arith, p.within);
-    }
-
--- one byte
-pub put_one : (l : List ℕ) (at b : ℕ) → Put 1 l at (b ∷ []) (at + 1) (set l at b)
-put_one l at b = record { next = omega arith; stored = refl; within = omega arith }
-
--- and two
-pub put_two : (l : List ℕ) (at b c : ℕ) → Put 2 l at (b ∷ c ∷ []) (at + 2) (set (set l at b) (at + 1) c)
-put_two l at b c = record { next = omega arith; stored = ap (λ (i : ℕ). set (set l at b) i c) (add-one at); within = omega arith }
-
 -- within other bounds
 pub put_in : {k : ℕ} {l : List ℕ} {at : ℕ} {a : List ℕ} {r : ℕ} {l' : List ℕ} (m : ℕ) → k ≤ m → Put k l at a r l' → Put m l at a r l'
 put_in m h p = record { next = p.next; stored = p.stored; within = omega (arith, p.within) }
@@ -91,9 +74,14 @@ put_in m h p = record { next = p.next; stored = p.stored; within = omega (arith,
 pub put_tight : {k : ℕ} {l : List ℕ} {at : ℕ} {a : List ℕ} {r : ℕ} {l' : List ℕ} → Put k l at a r l' → Put (length a) l at a r l'
 put_tight p = record { next = p.next; stored = p.stored; within = omega (arith, p.next) }
 
--- byte by byte
-pub put_copied : (a l : List ℕ) (at i : ℕ) (l' : List ℕ) → Copying a l at i l' → length a ≤ i → Put (length a) l at a (at + i) l'
-put_copied a l at i l' c h = record { next = omega (arith, c.upto); stored = copying_ends a l at i l' c h; within = omega (arith, c.upto) }
+-- a part of the line, written over
+pub put_over : (a l : List ℕ) (at e : ℕ) (b : List ℕ) → b ≡ a → e ≡ at + length a → e ≤ length l → Put (length a) l at a e (put_mid at (e - at) l b)
+put_over a l at e b q r h =
+    record {
+      next = r;
+      stored = rw q (part_stored at (e - at) l a (omega arith) (omega arith));
+      within = omega arith;
+    }
 
 -- the same bytes
 pub put_as : {k : ℕ} {l : List ℕ} {at : ℕ} {a b : List ℕ} {r : ℕ} {l' : List ℕ} → a ≡ b → Put k l at a r l' → Put k l at b r l'

@@ -3,14 +3,15 @@ use Prim.Native.Nat.{ℕ, zero, suc, ◌+◌, ◌≤◌, ◌<◌, min}
 use native.Mathlib.Omega.{arith}
 use native.Mathlib.Numerals.{add-one}
 use mathlib.Core.Path.{◌≡◌, refl, sym, ap, ◌∙◌}
-use mathlib.Core.Bool.{Bool, true, false, not}
-use mathlib.Core.Option.{Option, some, none}
+use mathlib.Core.Bool.{Bool, true, false}
+use Rattle.std.specs.Prelude.{Option, Some as some, None as none}
 use mathlib.Core.List.{List, [], ◌∷◌, ◌++◌, map}
 use lib.IntN.{ℤ, pos, ◌-ℤ◌}
 use lib.ListN.{length, get_or, drop}
 use lib.Seq.{sets, sets-eq, length-sets}
 use borrow.Author.Tests.{le-leb, lt-leb}
 use Rattle.outcome.specs.Outcome.{Res, ok, refuse, listed_by, no_cue}
+use Rattle.outcome.proofs.Laws.{ok-injective, refuse-injective, ok-not-refuse}
 use Rattle.grammar.specs.Index.{ListedText}
 use Rattle.grammar.specs.IndexCues.{Cue, cues_of, cue_at, duration_of, clip}
 use Rattle.idx_model.specs.Text.{idx_of}
@@ -18,7 +19,6 @@ use Rattle.idx_model.specs.Answers.{starts_of, positions_of, idx_with, idx_answe
 use Rattle.idx_model.specs.declared.IdxAnswer.{IdxAnswer}
 use Rattle.idx_model.proofs.Picks.{cue-out, last-duration, next-duration, text_open}
 use Rattle.idx_model.proofs.Grammar.{room_iff}
-use Rattle.idx_model.proofs.Refusals.{text_refuses}
 use Rattle.grammar.specs.Packets.{stream_id}
 use Rattle.ps_model.specs.Packets.{form_at}
 use Rattle.ps_model.specs.Answers.{unit_stored}
@@ -119,7 +119,7 @@ module _ (there : Bool) (text file l : List ℕ) where
       }
 
   module _ (e : readable there text file ≡ true) (small : length text ≤ 65536) (zs : List ℤ) (ps : List ℕ) (lz : length zs ≡ 65537) (lp : length ps ≡ 65537)
-      (a : IdxAnswer) (zs' : List ℤ) (ps' : List ℕ) (d : IdxRead text zs ps a zs' ps') where
+      (a : Res IdxAnswer) (zs' : List ℤ) (ps' : List ℕ) (d : IdxRead text zs ps a zs' ps') where
     opened : idx_with zs ps text ≡ idx_of text
     opened = text_open text (min (length zs) (length ps)) (omega arith)
 
@@ -130,14 +130,14 @@ module _ (there : Bool) (text file l : List ℕ) where
     kept-positions = ap length d.stored.positions_are ∙ length-sets ps 0 (positions_of (listed_by (idx_with zs ps text) cues_of))
 
     -- the index is refused
-    pub head-refused : (a.refused ≡ 0 → ⊥) → (r : Head) (l' : List ℕ) → (Put 210 l 0 (index_line a.refused) r.size l') × (r.cues ≡ 0) → Headed there text file zs ps l r zs' ps' l'
+    pub head-refused : (k : ℕ) → a ≡ refuse k → (r : Head) (l' : List ℕ) → (Put 210 l 0 (index_line k) r.size l') × (r.cues ≡ 0) → Headed there text file zs ps l r zs' ps' l'
     unfolding idx_answer table_of
-    head-refused h r l' p = go (idx_of text) refl (d.answer ∙ ap idx_answer opened)
+    head-refused k h r l' p = go (idx_of text) refl (sym h ∙ d.answer ∙ ap idx_answer opened)
       where
-        go : (x : Res ListedText) → idx_of text ≡ x → a ≡ idx_answer (idx_of text) → Headed there text file zs ps l r zs' ps' l'
-        go (ok index) q g = absurd (h (ap (λ (b : IdxAnswer). b.refused) (g ∙ ap idx_answer q)))
+        go : (x : Res ListedText) → idx_of text ≡ x → refuse k ≡ idx_answer (idx_of text) → Headed there text file zs ps l r zs' ps' l'
+        go (ok index) q g = ok-not-refuse (g ∙ ap idx_answer q)
         go (refuse n) q g =
-            let w : a.refused ≡ n = ap (λ (b : IdxAnswer). b.refused) (g ∙ ap idx_answer q) in
+            let w : k ≡ n = refuse-injective (g ∙ ap idx_answer q) in
             record {
               line = rw (e, q) (written (omega arith) (put_as (ap index_line w) p.0));
               count = rw (e, q) p.1;
@@ -154,16 +154,14 @@ module _ (there : Bool) (text file l : List ℕ) where
             }
 
     -- it is accepted
-    pub head-counted : a.refused ≡ 0 → (r : Head) (l' : List ℕ) → (Put 210 l 0 (cues_line a.cues) r.size l') × (r.cues ≡ a.cues) → Headed there text file zs ps l r zs' ps' l'
+    pub head-counted : (b : IdxAnswer) → a ≡ ok b → (r : Head) (l' : List ℕ) → (Put 210 l 0 (cues_line b.cues) r.size l') × (r.cues ≡ b.cues) → Headed there text file zs ps l r zs' ps' l'
     unfolding idx_answer
-    head-counted h r l' p = go (idx_of text) refl (d.answer ∙ ap idx_answer opened)
+    head-counted b h r l' p = go (idx_of text) refl (sym h ∙ d.answer ∙ ap idx_answer opened)
       where
-        go : (x : Res ListedText) → idx_of text ≡ x → a ≡ idx_answer (idx_of text) → Headed there text file zs ps l r zs' ps' l'
-        go (refuse n) q g =
-            let w : a.refused ≡ n = ap (λ (b : IdxAnswer). b.refused) (g ∙ ap idx_answer q) in
-            absurd (text_refuses none text n q (sym w ∙ h))
+        go : (x : Res ListedText) → idx_of text ≡ x → ok b ≡ idx_answer (idx_of text) → Headed there text file zs ps l r zs' ps' l'
+        go (refuse n) q g = ok-not-refuse (sym (g ∙ ap idx_answer q))
         go (ok index) q g =
-            let w : a.cues ≡ length (cues_of index) = ap (λ (b : IdxAnswer). b.cues) (g ∙ ap idx_answer q) in
+            let w : b.cues ≡ length (cues_of index) = ap (λ (c : IdxAnswer). c.cues) (ok-injective (g ∙ ap idx_answer q)) in
             let found : idx_with zs ps text ≡ ok index = opened ∙ q in
             let room = ((room_iff (min (length zs) (length ps)) text index).0 found).1 in
             let s : zs' ≡ sets zs 0 (starts_of (cues_of index)) =
@@ -181,18 +179,14 @@ module _ (there : Bool) (text file l : List ℕ) where
             }
 
 -- both files can be read, or one of them cannot
-pub not_there : (there : Bool) (text file : List ℕ) → not there ≡ true → readable there text file ≡ false
-not_there true text file e = absurd (let z : ◌≡◌ {A = ℕ} 0 1 = cc in omega arith)
-not_there false text file e = refl
+pub not_there : (there : Bool) (text file : List ℕ) → there ≡ false → readable there text file ≡ false
+not_there there text file e = rw e
 
-pub long_text : (there : Bool) (text file : List ℕ) → not there ≡ false → 65536 < length text → readable there text file ≡ false
-long_text true text file e h = rw (lt-leb (length text) 65536 h)
-long_text false text file e h = refl
+pub long_text : (there : Bool) (text file : List ℕ) → there ≡ true → 65536 < length text → readable there text file ≡ false
+long_text there text file e h = rw (e, lt-leb (length text) 65536 h)
 
-pub long_file : (there : Bool) (text file : List ℕ) → not there ≡ false → length text ≤ 65536 → 65536 < length file → readable there text file ≡ false
-long_file true text file e h i = rw (le-leb (length text) 65536 h, lt-leb (length file) 65536 i)
-long_file false text file e h i = refl
+pub long_file : (there : Bool) (text file : List ℕ) → there ≡ true → length text ≤ 65536 → 65536 < length file → readable there text file ≡ false
+long_file there text file e h i = rw (e, le-leb (length text) 65536 h, lt-leb (length file) 65536 i)
 
-pub can-read : (there : Bool) (text file : List ℕ) → not there ≡ false → length text ≤ 65536 → length file ≤ 65536 → readable there text file ≡ true
-can-read true text file e h i = rw (le-leb (length text) 65536 h, le-leb (length file) 65536 i)
-can-read false text file e h i = absurd (let z : ◌≡◌ {A = ℕ} 0 1 = cc in omega arith)
+pub can-read : (there : Bool) (text file : List ℕ) → there ≡ true → length text ≤ 65536 → length file ≤ 65536 → readable there text file ≡ true
+can-read there text file e h i = rw (e, le-leb (length text) 65536 h, le-leb (length file) 65536 i)

@@ -3,8 +3,8 @@ use Prim.Native.Nat.{ℕ, zero, suc, ◌+◌, ◌-◌, ◌≤◌, ◌<◌}
 use native.Mathlib.Omega.{arith}
 use mathlib.Core.Path.{◌≡◌, refl, sym, ap, ◌∙◌, subst}
 use mathlib.Core.Logic.{◌⊎◌, inl, inr}
-use mathlib.Core.Bool.{Bool}
-use mathlib.Core.Option.{Option, some, none}
+use mathlib.Core.Bool.{Bool, true, false}
+use Rattle.std.specs.Prelude.{Option, Some as some, None as none}
 use mathlib.Core.List.{List, [], ◌∷◌, ◌++◌}
 use lib.IntN.{ℤ}
 use lib.ListN.{length, take, drop}
@@ -12,16 +12,17 @@ use lib.Seq.{sets, slice}
 use mir.Syntax.{w8}
 use mir.Val.{Fits}
 use borrow.Author.Tests.{le-leb}
-use Rattle.outcome.specs.Outcome.{Res, ok, refuse, and_then, map_res}
-use Rattle.outcome.proofs.Laws.{and_then-ok, map_res-ok, part_slice}
+use Rattle.outcome.specs.Outcome.{Res, ok, refuse, and_then, map_res, long_instant}
+use Rattle.outcome.proofs.Laws.{ok-injective, refuse-injective, ok-not-refuse, and_then-ok, check-ok, map_res-ok, part_slice}
 use Rattle.grammar.specs.Bytes.{byte, word}
 use Rattle.grammar.specs.Packets.{Packet, Part, kept_bytes, joined, Packets, IsPack, IsPrivate, IsOther, IsPacket, Keeps, Form, bare, packets, IsForm, unit_of, scratch_for, stream_id}
 use Rattle.grammar.specs.Record.{told, width}
 use Rattle.grammar.specs.Picture.{ListedUnit}
-use Rattle.clock_model.specs.Clock.{unit_in_time}
-use Rattle.clock_model.specs.Answers.{delayed, times_answer}
+use Rattle.clock_model.specs.Clock.{told_stay, unit_in_time}
+use Rattle.clock_model.specs.Answers.{delay_in, delayed, times_answer}
+use Rattle.clock_model.specs.declared.Ticks.{Ticks}
+use Rattle.std.specs.Bool.{then_some}
 use Rattle.clock_model.specs.declared.Times.{Times}
-use Rattle.clock_model.specs.declared.TimesAnswer.{TimesAnswer}
 use Rattle.control_model.specs.Few.{few_at}
 use Rattle.control_model.proofs.Few.{few_iff}
 use Rattle.control_model.proofs.Clock.{told_stay_lem, told-leave}
@@ -30,16 +31,15 @@ use Rattle.control_model.specs.declared.Spu.{Spu}
 use Rattle.ps_model.specs.Packets.{form_at}
 use Rattle.ps_model.specs.Unit as PsUnit
 use Rattle.ps_model.specs.Answers.{form_stored, unit_given, unit_stored, unit_part, Extracted}
-use Rattle.ps_model.specs.declared.UnitAnswer.{UnitAnswer}
+use Rattle.ps_model.specs.declared.UnitAt.{UnitAt}
 use Rattle.ps_model.proofs.Grammar.{form_iff}
 use Rattle.ps_model.proofs.Claim.{stream_sound, unit-there}
 use Rattle.spu_model.specs.Unit.{rows_at, listed_unit, unit_at, counts_of}
 use Rattle.spu_model.specs.Answers.{spu_answer}
-use Rattle.spu_model.specs.declared.SpuAnswer.{SpuAnswer}
 use Rattle.spu_model.proofs.Loops.{known}
 use Rattle.listing_model.specs.Lines.{shown_line, refused_line}
 use Rattle.listing_model.specs.Title.{list_stream, shown_at, unit_for, timed_for, line_of}
-use Rattle.listing_model.specs.Answers.{Put, record_shown, unit_line, position_line}
+use Rattle.listing_model.specs.Answers.{Put, record_shown, position_line}
 use Rattle.listing_model.proofs.Laws.{put_as}
 use Rattle.rle_model.specs.Answers.{nothing, listed_counts}
 
@@ -129,15 +129,15 @@ module _ (id : ℕ → Bool) (f : List ℕ) (h : Small f) where
       go (refuse k) e = refl
       go (ok m) e = rw (le-leb (scratch_for m) n (omega (arith, scratch-small p m ((form_iff id f p m).0 e).1)))
 
--- ---- The line of a unit
+-- ---- The record of a unit
 
 -- what is shown has a size
-pub shows-sides : (u : List ℕ) (r : SpuAnswer) (s : Spu) → r ≡ spu_answer (unit_at u) → r ≡ SpuAnswer.Shows s
+shows-sides : (u : List ℕ) (r : Res Spu) (s : Spu) → r ≡ spu_answer (unit_at u) → r ≡ ok s
     → (s.x1 ≤ s.x2) × (s.y1 ≤ s.y2)
 unfolding unit_at spu_of
 shows-sides u r s d q = go (unit_at u) refl (sym q ∙ d)
   where
-    go : (x : Res ListedUnit) → unit_at u ≡ x → SpuAnswer.Shows s ≡ spu_answer x → (s.x1 ≤ s.x2) × (s.y1 ≤ s.y2)
+    go : (x : Res ListedUnit) → unit_at u ≡ x → ok s ≡ spu_answer x → (s.x1 ≤ s.x2) × (s.y1 ≤ s.y2)
     go (refuse m) g f = let z : ◌≡◌ {A = ℕ} 0 1 = cc in absurd (omega arith)
     go (ok l) g f =
         let a = and_then-ok (few_at u) _ g in
@@ -147,56 +147,54 @@ shows-sides u r s d q = go (unit_at u) refl (sym q ∙ d)
         let t : s ≡ spu_of (told bs) (listed_counts (width (told bs)) m.0) = let z : s ≡ spu_of (told l.blocks) (counts_of l) = cc in z ∙ ap (λ (v : ListedUnit). spu_of (told v.blocks) (counts_of v)) (sym m.2) in
         (subst (λ (v : Spu). v.x1 ≤ v.x2) (sym t) y.wide, subst (λ (v : Spu). v.y1 ≤ v.y2) (sym t) y.high)
 
-module _ (n : ℕ) (z : ℤ) (o : Option ℕ) {l l' : List ℕ} {k : ℕ} where
-  -- a unit that is not refused, by its times
-  module _ (u : List ℕ) (r : SpuAnswer) (s : Spu) (d : r ≡ spu_answer (unit_at u)) (q : r ≡ SpuAnswer.Shows s)
-      (t : TimesAnswer)
-      (g : t ≡ times_answer z (delayed s.started s.start_delay_raw.0) (delayed s.stopped s.stop_delay_raw.0)) where
-    pub shows-line : (y : ℤ) → y ≡ z → (v : ℕ) (x : Times) → t ≡ TimesAnswer.Are x
-        → Put k l 0 (shown_line n (record_shown y o s)) v l' → Put k l 0 (unit_line n z o u) v l'
-    unfolding spu_of shown_line
-    shows-line y e v x h p = put_as (go (unit_at u) (sym q ∙ d)) p
-      where
-        go : (m : Res ListedUnit) → SpuAnswer.Shows s ≡ spu_answer m
-            → shown_line n (record_shown y o s) ≡ line_of n (map_res (shown_at z o) (unit_in_time z m))
-        go (refuse m) f = let w : ◌≡◌ {A = ℕ} 0 1 = cc in absurd (omega arith)
-        go (ok m) f =
-            let w : s ≡ spu_of (told m.blocks) (counts_of m) = cc in
-            rw (told_stay_lem z s (told m.blocks) (counts_of m) w t g x h).0
-            (ap (λ (i : Spu). shown_line n (record_shown y o i)) w ∙ ap (λ (i : ℤ). shown_line n (record_shown i o (spu_of (told m.blocks) (counts_of m)))) e)
+-- a delay that stands, as the code hands it on
+then_delayed : (b : Bool) (t : Ticks) → delay_in (then_some b t) ≡ delayed b t.0
+then_delayed true t = refl
+then_delayed false t = refl
 
-    pub late-line : (j v : ℕ) → t ≡ TimesAnswer.Refused j → Put k l 0 (refused_line n j) v l' → Put k l 0 (unit_line n z o u) v l'
-    late-line j v h p = put_as (go (unit_at u) (sym q ∙ d)) p
-      where
-        go : (m : Res ListedUnit) → SpuAnswer.Shows s ≡ spu_answer m
-            → refused_line n j ≡ line_of n (map_res (shown_at z o) (unit_in_time z m))
-        go (refuse m) f = let w : ◌≡◌ {A = ℕ} 0 1 = cc in absurd (omega arith)
-        go (ok m) f =
-            let w : s ≡ spu_of (told m.blocks) (counts_of m) = cc in
-            let i = told-leave z s (told m.blocks) (counts_of m) w t g j h in
-            rw i.0 (ap (refused_line n) i.1)
-
-  pub refuses-line : (u : List ℕ) (r : SpuAnswer) (m v : ℕ) → r ≡ spu_answer (unit_at u) → r ≡ SpuAnswer.Refused m
-      → Put k l 0 (refused_line n m) v l' → Put k l 0 (unit_line n z o u) v l'
-  refuses-line u r m v d q p = put_as (go (unit_at u) (sym q ∙ d)) p
+module _ (z : ℤ) (u : List ℕ) (r : Res Spu) (d : r ≡ spu_answer (unit_at u)) where
+  -- a unit that is refused
+  pub unit-refused : (m : ℕ) → r ≡ refuse m → refuse m ≡ spu_answer (unit_in_time z (unit_at u))
+  unit-refused m q = go (unit_at u) (sym q ∙ d)
     where
-      go : (x : Res ListedUnit) → SpuAnswer.Refused m ≡ spu_answer x
-          → refused_line n m ≡ line_of n (map_res (shown_at z o) (unit_in_time z x))
-      go (ok l) f = let w : ◌≡◌ {A = ℕ} 0 1 = cc in absurd (omega arith)
-      go (refuse j) f = let w : m ≡ j = cc in ap (refused_line n) w
+      go : (x : Res ListedUnit) → refuse m ≡ spu_answer x → refuse m ≡ spu_answer (unit_in_time z x)
+      go (ok l) f = ok-not-refuse f
+      go (refuse j) f = f
 
-  -- of the unit's bytes
-  pub part-line : (u w : List ℕ) (v : ℕ) → u ≡ w → Put k l 0 (unit_line n z o u) v l' → Put k l 0 (unit_line n z o w) v l'
-  part-line u w v q p = put_as (ap (unit_line n z o) q) p
+  -- one that is not, by its times
+  module _ (s : Spu) (q : r ≡ ok s) (a b : Option Ticks) (ea : a ≡ then_some s.started s.start_delay_raw) (eb : b ≡ then_some s.stopped s.stop_delay_raw)
+      (t : Res Times) (g : t ≡ times_answer z (delay_in a) (delay_in b)) where
+    by-record : t ≡ times_answer z (delayed s.started s.start_delay_raw.0) (delayed s.stopped s.stop_delay_raw.0)
+    by-record =
+        g
+        ∙ (λ i. times_answer z (delay_in (ea i)) (delay_in (eb i)))
+        ∙ (λ i. times_answer z (then_delayed s.started s.start_delay_raw i) (then_delayed s.stopped s.stop_delay_raw i))
 
--- ---- The line of a position
+    pub unit-late : (j : ℕ) → t ≡ refuse j → refuse j ≡ spu_answer (unit_in_time z (unit_at u))
+    unit-late j h = go (unit_at u) (sym q ∙ d)
+      where
+        go : (m : Res ListedUnit) → ok s ≡ spu_answer m → refuse j ≡ spu_answer (unit_in_time z m)
+        go (refuse m) f = ok-not-refuse (sym f)
+        go (ok m) f =
+            let i = told-leave z s (told m.blocks) (counts_of m) (ok-injective f) t by-record j h in
+            rw i.0 (ap refuse i.1)
 
-module _ (f : List ℕ) (bytes : (i : ℕ) → Fits w8 (byte f i)) (p : ℕ) (s s' : List ℕ) (long : length s ≡ 65536) (r : UnitAnswer) (d : Extracted f p list_stream s r s') where
+    pub unit-in-time : (x : Times) → t ≡ ok x → ok s ≡ spu_answer (unit_in_time z (unit_at u))
+    unit-in-time x h = go (unit_at u) (sym q ∙ d)
+      where
+        go : (m : Res ListedUnit) → ok s ≡ spu_answer m → ok s ≡ spu_answer (unit_in_time z m)
+        go (refuse m) f = ok-not-refuse (sym f)
+        go (ok m) f =
+            rw (told_stay_lem z s (told m.blocks) (counts_of m) (ok-injective f) t by-record x h).0 f
+
+-- ---- The record and the line of a position
+
+module _ (f : List ℕ) (bytes : (i : ℕ) → Fits w8 (byte f i)) (p : ℕ) (s s' : List ℕ) (long : length s ≡ 65536) (r : Res UnitAt) (d : Extracted f p list_stream s r s') where
   open_form : PsUnit.stream_unit list_stream f p (length s) ≡ form_at (stream_id list_stream) f p
   unfolding PsUnit.stream_unit
   open_form = scratch_open (stream_id list_stream) f (small_all f (λ i. (bytes i).fits)) p (length s) (omega arith)
 
-  unit-found : ((k : ℕ) → r ≡ UnitAnswer.Refused k → ⊥) → unit_at (unit_part f s' p r) ≡ unit_for f p
+  unit-found : ((k : ℕ) → r ≡ refuse k → ⊥) → unit_at (unit_part f s' p r) ≡ unit_for f p
   unfolding unit_for
   unit-found o = go (PsUnit.stream_unit list_stream f p (length s)) refl d.answer d.scratch
     where
@@ -213,33 +211,64 @@ module _ (f : List ℕ) (bytes : (i : ℕ) → Fits w8 (byte f i)) (p : ℕ) (s 
           ∙ unit-there (stream_id list_stream) f p s m i.1 t.2 in
           rw t.1 (ap unit_at u)
 
-  unit-none : (k : ℕ) → r ≡ UnitAnswer.Refused k → refuse k ≡ unit_for f p
+  unit-none : (k : ℕ) → r ≡ refuse k → refuse k ≡ unit_for f p
   unfolding unit_for
   unit-none k q = go (form_at (stream_id list_stream) f p) refl (sym q ∙ d.answer ∙ ap unit_given open_form)
     where
       go : (x : Res Form) → form_at (stream_id list_stream) f p ≡ x
-          → UnitAnswer.Refused k ≡ unit_given (form_at (stream_id list_stream) f p)
+          → refuse k ≡ unit_given (form_at (stream_id list_stream) f p)
           → refuse k ≡ and_then (form_at (stream_id list_stream) f p) (λ m. unit_at (unit_of m))
       go (ok (bare u)) e g = absurd (let w : ◌≡◌ {A = ℕ} 0 1 = cc in omega arith)
       go (ok (packets ps)) e g = absurd (let w : ◌≡◌ {A = ℕ} 0 1 = cc in omega arith)
       go (refuse j) e g = let w : k ≡ j = cc in rw e (ap refuse w)
 
 -- what is left in scratch
-pub scratch-kept : (f : List ℕ) (bytes : (i : ℕ) → Fits w8 (byte f i)) (p : ℕ) (s s' : List ℕ) (r : UnitAnswer)
+pub scratch-kept : (f : List ℕ) (bytes : (i : ℕ) → Fits w8 (byte f i)) (p : ℕ) (s s' : List ℕ) (r : Res UnitAt)
     → length s ≡ 65536 → Extracted f p list_stream s r s'
     → s' ≡ sets s 0 (unit_stored (form_at (stream_id list_stream) f p))
 scratch-kept f bytes p s s' r long d = d.scratch ∙ ap (λ (x : Res Form). sets s 0 (unit_stored x)) (open_form f bytes p s s' long r d)
 
-pub found-line : (n : ℕ) (z : ℤ) (o : Option ℕ) {l l' : List ℕ} {k : ℕ} (v : ℕ) (f : List ℕ) (bytes : (i : ℕ) → Fits w8 (byte f i)) (p : ℕ) (s s' : List ℕ) (r : UnitAnswer)
+pub found-record : (z : ℤ) (v : Res Spu) (f : List ℕ) (bytes : (i : ℕ) → Fits w8 (byte f i)) (p : ℕ) (s s' : List ℕ) (m : UnitAt)
     → length s ≡ 65536
-    → Extracted f p list_stream s r s' → ((j : ℕ) → r ≡ UnitAnswer.Refused j → ⊥) → Put k l 0 (unit_line n z o (unit_part f s' p r)) v l' → Put k l 0 (position_line n z o f p) v l'
+    → Extracted f p list_stream s (ok m) s' → v ≡ spu_answer (unit_in_time z (unit_at (unit_part f s' p (ok m)))) → v ≡ spu_answer (timed_for z f p)
 unfolding timed_for
-found-line n z o v f bytes p s s' r long d h q =
-    put_as (ap (λ (x : Res ListedUnit). line_of n (map_res (shown_at z o) (unit_in_time z x))) (unit-found f bytes p s s' long r d h)) q
+found-record z v f bytes p s s' m long d q =
+    q ∙ ap (λ (x : Res ListedUnit). spu_answer (unit_in_time z x)) (unit-found f bytes p s s' long (ok m) d (λ k e. ok-not-refuse (sym e)))
 
-pub none-line : (n : ℕ) (z : ℤ) (o : Option ℕ) {l l' : List ℕ} {k : ℕ} (v : ℕ) (f : List ℕ) (bytes : (i : ℕ) → Fits w8 (byte f i)) (p : ℕ) (s s' : List ℕ) (r : UnitAnswer) (m : ℕ)
+pub none-record : (z : ℤ) (f : List ℕ) (bytes : (i : ℕ) → Fits w8 (byte f i)) (p : ℕ) (s s' : List ℕ) (r : Res UnitAt) (m : ℕ)
     → length s ≡ 65536
-    → Extracted f p list_stream s r s' → r ≡ UnitAnswer.Refused m → Put k l 0 (refused_line n m) v l' → Put k l 0 (position_line n z o f p) v l'
+    → Extracted f p list_stream s r s' → r ≡ refuse m → refuse m ≡ spu_answer (timed_for z f p)
 unfolding timed_for
-none-line n z o v f bytes p s s' r m long d h q =
-    put_as (ap (λ (x : Res ListedUnit). line_of n (map_res (shown_at z o) (unit_in_time z x))) (unit-none f bytes p s s' long r d m h)) q
+none-record z f bytes p s s' r m long d h = rw (sym (unit-none f bytes p s s' long r d m h))
+
+module _ (n : ℕ) (z : ℤ) (o : Option ℕ) (f : List ℕ) (p : ℕ) {l l' : List ℕ} {at k v : ℕ} where
+  pub shows-line : (y : ℤ) → y ≡ z → (s : Spu) → ok s ≡ spu_answer (timed_for z f p)
+      → Put k l at (shown_line n (record_shown y o s)) v l' → Put k l at (position_line n z o f p) v l'
+  unfolding spu_of shown_line
+  shows-line y e s d q = put_as (go (timed_for z f p) d) q
+    where
+      go : (m : Res ListedUnit) → ok s ≡ spu_answer m → shown_line n (record_shown y o s) ≡ line_of n (map_res (shown_at z o) m)
+      go (refuse m) g = ok-not-refuse (sym g)
+      go (ok m) g =
+          ap (λ (i : Spu). shown_line n (record_shown y o i)) (ok-injective g)
+          ∙ ap (λ (i : ℤ). shown_line n (record_shown i o (spu_of (told m.blocks) (counts_of m)))) e
+
+  pub refused-line : (m : ℕ) → refuse m ≡ spu_answer (timed_for z f p) → Put k l at (refused_line n m) v l' → Put k l at (position_line n z o f p) v l'
+  refused-line m d q = put_as (go (timed_for z f p) d) q
+    where
+      go : (x : Res ListedUnit) → refuse m ≡ spu_answer x → refused_line n m ≡ line_of n (map_res (shown_at z o) x)
+      go (ok x) g = ok-not-refuse g
+      go (refuse j) g = ap (refused_line n) (refuse-injective g)
+
+-- and what is shown there has a size
+pub position-sides : (z : ℤ) (f : List ℕ) (p : ℕ) (s : Spu) → ok s ≡ spu_answer (timed_for z f p) → (s.x1 ≤ s.x2) × (s.y1 ≤ s.y2)
+unfolding timed_for unit_for
+position-sides z f p s d = go (timed_for z f p) refl d
+  where
+    go : (x : Res ListedUnit) → timed_for z f p ≡ x → ok s ≡ spu_answer x → (s.x1 ≤ s.x2) × (s.y1 ≤ s.y2)
+    go (refuse m) e g = ok-not-refuse (sym g)
+    go (ok l) e g =
+        let a = and_then-ok (unit_for f p) _ e in
+        let b = check-ok (told_stay z (told (a.0).blocks)) long_instant (ok a.0) a.2 in
+        let c = and_then-ok (form_at (stream_id list_stream) f p) _ a.1 in
+        shows-sides (unit_of c.0) (ok s) s (g ∙ ap spu_answer (sym (c.2 ∙ b.1))) refl

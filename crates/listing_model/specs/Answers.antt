@@ -1,6 +1,6 @@
 -- What the functions leave in a lent line, and what a lent cue table holds (FORMAT 8). Assumes nothing: these are definitions.
-use Rattle.std.specs.Prelude.{ℕ, zero, suc, ◌+◌, ◌-◌, ◌≤◌, ◌≡◌, Bool, true, false, ◌↔◌, List, [], ◌∷◌, map, ℤ, length}
-use Rattle.std.proofs.Math.Option.{Option, some, none}
+use Rattle.std.specs.Prelude.{ℕ, zero, suc, ◌+◌, ◌-◌, ◌≤◌, ◌≡◌, Bool, ◌↔◌, List, [], ◌∷◌, map, ℤ, length}
+use Rattle.std.specs.Prelude.{Option, Some as some}
 use Rattle.std.proofs.lemmas.List.Edits.{sets}
 use Rattle.outcome.specs.Outcome.{IsOk, map_res}
 use Rattle.grammar.specs.Index.{ListedText, IsText}
@@ -9,11 +9,9 @@ use Rattle.grammar.specs.Packets.{Packet, stream_id}
 use Rattle.grammar.specs.Streams.{Walk, Alike}
 use Rattle.grammar.specs.Reading.{wanted, Reading, IsReading, Shown, shown}
 use Rattle.grammar.specs.Times.{show_time, hide_time}
-use Rattle.clock_model.specs.Clock.{unit_in_time}
 use Rattle.clock_model.specs.Answers.{delayed}
 use Rattle.control_model.specs.declared.Spu.{Spu}
 use Rattle.ps_model.specs.Answers.{unit_stored}
-use Rattle.spu_model.specs.Unit.{unit_at}
 use Rattle.listing_model.specs.Lines.{refused_line, shown_line}
 use Rattle.listing_model.specs.Title.{list_stream, shown_at, timed_for, form_for, shown_for, line_of, cue_line, head_line, listed_cues}
 use Rattle.listing_model.specs.declared.Head.{Head}
@@ -31,11 +29,6 @@ pub record Written (bytes : List ℕ) (l : List ℕ) (r : ℕ) (l' : List ℕ) :
   pub size : r ≡ length bytes
   pub stored : l' ≡ sets l 0 bytes
   pub inside : r ≤ 256
-
--- a duration as the code holds it
-abbrev pub duration_is : Bool → ℕ → Option ℕ
-duration_is true d = some d
-duration_is false d = none
 
 -- what is shown of the record s at these times
 abbrev pub record_shown : ℤ → Option ℕ → Spu → Shown
@@ -59,11 +52,7 @@ record_shown start duration s =
       clipped = s.clipped;
     }
 
--- the line of cue n with these times and the unit u
-abbrev pub unit_line : ℕ → ℤ → Option ℕ → List ℕ → List ℕ
-unit_line n start duration u = line_of n (map_res (shown_at start duration) (unit_in_time start (unit_at u)))
-
--- and with this position in the file f
+-- the line of cue n with these times and the unit at this position in the file f
 abbrev pub position_line : ℕ → ℤ → Option ℕ → List ℕ → ℕ → List ℕ
 position_line n start duration f p = line_of n (map_res (shown_at start duration) (timed_for start f p))
 

@@ -1,7 +1,7 @@
 -- What is listed of a title: its cues, and for each what is shown or the number of the refusal (FORMAT 8). No buffer counts here: those
 -- that the program lends are always long enough. Assumes nothing: these are definitions.
 use Rattle.std.specs.Prelude.{ℕ, zero, suc, Bool, cond, ◌&&◌, List, [], ◌++◌, leb, ℤ, length}
-use Rattle.std.proofs.Math.Option.{Option}
+use Rattle.std.specs.Prelude.{Option}
 use Rattle.outcome.specs.Outcome.{Res, ok, refuse, need, and_then, map_res, listed, no_cue}
 use Rattle.grammar.specs.IndexCues.{Cue, cues_of, cue_at, duration_of}
 use Rattle.grammar.specs.Packets.{Form, unit_of, stream_id}

@@ -2,7 +2,7 @@
 #![tactic(auto)]
 
 // A title's first line.
-#[derive(Clone, Copy)]
+#[derive(Clone, Copy, Debug, PartialEq, Eq)]
 pub struct Head {
     // How long the line is.
     pub size: usize,

@@ -1,52 +1,82 @@
 // What stored colour bands give at a place of the display (docs/FORMAT.md, 4.6), and how many they are.
 #![tactic(auto)]
 
-ghost use Rattle.std.specs.Prelude.{◌≡◌, ◌≤◌, ◌-◌, ◌+◌, ◌*◌, length, get_or, drop, leb, ◌&&◌};
-ghost use Rattle.bands_model.specs.Look.{told, pick_entry, entries_look, band_look, look_words, spans_line};
+ghost use Rattle.std.specs.Prelude.{◌≡◌, ◌≤◌, ◌<◌, ◌*◌, length, leb, ◌&&◌, IfSome, None};
+ghost use Rattle.bands_model.specs.Look.{told, pick_entry, entries_look, band_look, look_words, spans_line, IsFront};
 ghost use Rattle.bands_model.specs.Count.{bands_held};
 
-use bands_model::LookAnswer;
-use outcome::lesser;
+use bands_model::Four;
 
 // An entry that starts at the column or left of it, or what was found before it.
-fn pick_entry(x: u16, column: u16, selectors: u16, alphas: u16, before: LookAnswer) -> LookAnswer
+fn pick_entry(
+    x: u16,
+    column: u16,
+    selectors: u16,
+    alphas: u16,
+    before: Option<Four>,
+) -> Option<Four>
     ensures { told result ≡ pick_entry x column selectors alphas (told before) }
 {
     if column <= x {
-        return LookAnswer::Found { selectors, alphas };
+        return Some(Four { selectors, alphas });
     }
     before
 }
 
-// The last of n entries from place `from` on that starts at the column or left of it, or what was found before them.
-fn look_entries(words: &[u16], from: usize, n: usize, x: u16, before: LookAnswer) -> LookAnswer
-    requires { from + 3 * n ≤ length words.now }
-    ensures { told result ≡ entries_look x (told before) n (drop from words.now) }
+// The last of n entries in front that starts at the column or left of it, or what was found before them.
+fn look_entries(words: &[u16], n: usize, x: u16, before: Option<Four>) -> Option<Four>
+    requires { 3 * n ≤ length words.now }
+    ensures { told result ≡ entries_look x (told before) n words.now }
 {
     let mut look = before;
-    let mut at = from;
-    let mut left = n;
-    while 0 < left {
+    for i in 0..n {
+        let at = 3 * i;
         look = pick_entry(x, words[at], words[at + 1], words[at + 2], look);
-        at += 3;
-        left -= 1;
     }
     look
 }
 
-// The same for the band whose header is the three words before `from`, where it spans line y.
-fn look_band(words: &[u16], from: usize, n: usize, x: u16, y: u16, before: LookAnswer) -> LookAnswer
-    requires { (3 ≤ from) × (from + 3 * n ≤ length words.now) }
-    ensures { told result ≡ band_look x y (get_or words.now (from - 3) 0) (get_or words.now (from - 2) 0) n (told before)
-        (drop from words.now) }
+// A stored band: its first and last line, how many entries there are, the words from these on, and those after them.
+#[derive(Clone, Copy)]
+struct StoredBand<'a> {
+    first: u16,
+    last: u16,
+    count: usize,
+    words: &'a [u16],
+    rest: &'a [u16],
+}
+
+// The band in front of stored words, cut where they end. Any words are read; fewer than three say nothing.
+fn front_band(words: &[u16]) -> Option<StoredBand<'_>>
+    ensures none { result ≡ None → length words.now < 3 }
+    ensures some { IfSome result (λ b. IsFront words.now b.first b.last b.count b.words.now b.rest.now) }
 {
-    let first = words[from - 3];
-    let last = words[from - 2];
-    if first <= y {
-        if y <= last {
-            return look_entries(words, from, n, x, before);
-        }
-        return before;
+    let [first, last, count, entries @ ..] = words else {
+        return None;
+    };
+    let n = (*count as usize).min(entries.len() / 3);
+    Some(StoredBand {
+        first: *first,
+        last: *last,
+        count: n,
+        words: entries,
+        rest: &entries[3 * n..],
+    })
+}
+
+fn is_between(first: u16, last: u16, y: u16) -> bool
+    ensures { result ≡ (leb first y && leb y last) }
+{
+    (first..=last).contains(&y)
+}
+
+// The same of a band's entries, where it spans line y.
+fn look_band(band: StoredBand, x: u16, y: u16, before: Option<Four>) -> Option<Four>
+    requires { 3 * band.count ≤ length band.words.now }
+    ensures { told result ≡ band_look x y band.entry.first band.entry.last band.entry.count (told before) band.entry.words.now }
+{
+    if is_between(band.first, band.last, y) {
+        return look_entries(band.words, band.count, x, before);
     }
     before
 }
@@ -54,27 +84,16 @@ fn look_band(words: &[u16], from: usize, n: usize, x: u16, y: u16, before: LookA
 // What stored bands give at column x of line y: of the bands on the line that have an entry at the column or left of it, the last, and of that the
 // rightmost such entry. Any words are read; entries that are cut short say nothing.
 // Ruled out: the first band that spans the line; an entry that starts right of the column.
-pub fn chg_colcon_lookup(words: &[u16], x: u16, y: u16) -> LookAnswer
+pub fn chg_colcon_lookup(words: &[u16], x: u16, y: u16) -> Option<Four>
     ensures { told result ≡ look_words x y words.now }
 {
-    let mut look = LookAnswer::Nothing;
-    let mut at: usize = 0;
-    while 3 <= words.len() - at {
-        let from = at + 3;
-        let n = lesser(words[at + 2] as usize, (words.len() - from) / 3);
-        look = look_band(words, from, n, x, y, look);
-        at = from + 3 * n;
+    let mut look: Option<Four> = None;
+    let mut left = words;
+    while let Some(band) = front_band(left) {
+        look = look_band(band, x, y, look);
+        left = band.rest;
     }
     look
-}
-
-fn is_between(first: u16, last: u16, y: u16) -> bool
-    ensures { result ≡ (leb first y && leb y last) }
-{
-    if first <= y {
-        return y <= last;
-    }
-    false
 }
 
 // Whether one of the stored bands spans line y, with entries or without. Any words are read.
@@ -82,14 +101,12 @@ fn is_between(first: u16, last: u16, y: u16) -> bool
 pub fn spans_line(words: &[u16], y: u16) -> bool
     ensures { result ≡ spans_line y words.now }
 {
-    let mut at: usize = 0;
-    while 3 <= words.len() - at {
-        if is_between(words[at], words[at + 1], y) {
+    let mut rest = words;
+    while let Some(band) = front_band(rest) {
+        if is_between(band.first, band.last, y) {
             return true;
         }
-        let next = at + 3;
-        let n = lesser(words[at + 2] as usize, (words.len() - next) / 3);
-        at = next + 3 * n;
+        rest = band.rest;
     }
     false
 }
@@ -99,12 +116,10 @@ pub fn spans_line(words: &[u16], y: u16) -> bool
 pub fn count_bands(words: &[u16]) -> usize
     ensures { result ≡ bands_held words.now }
 {
-    let mut at: usize = 0;
+    let mut rest = words;
     let mut bands: usize = 0;
-    while 3 <= words.len() - at {
-        let next = at + 3;
-        let n = lesser(words[at + 2] as usize, (words.len() - next) / 3);
-        at = next + 3 * n;
+    while let Some(band) = front_band(rest) {
+        rest = band.rest;
         bands += 1;
     }
     bands

@@ -3,10 +3,10 @@
 #![tactic(auto)]
 
 ghost use Rattle.std.specs.Prelude.{◌≡◌};
-ghost use Rattle.rle_model.specs.Nibbles.{nibble_at, nibble_answer, past_nibble, on_byte};
+ghost use Rattle.outcome.specs.Outcome.{answered};
+ghost use Rattle.rle_model.specs.Nibbles.{nibble_at, past_nibble, on_byte};
 
-use outcome::FIELD_RAN_OUT;
-use rle_model::Nibble;
+use outcome::Refusal;
 
 #[derive(Drop)]
 pub struct NibbleReader<'a> {
@@ -18,19 +18,19 @@ pub struct NibbleReader<'a> {
 // The nibble at half byte pos, or 26 where the field ran out.
 // Ruled out: the low half of a byte first; a nibble past the field's end.
 #[tactic(auto, using(crate::proofs::Steps::high))]
-pub fn nibble_at(field: &[u8], pos: usize) -> Nibble
-    ensures { result ≡ nibble_answer (nibble_at field.now pos) }
+pub fn nibble_at(field: &[u8], pos: usize) -> Result<usize, Refusal>
+    ensures { answered result ≡ nibble_at field.now pos }
 {
     let i = pos / 2;
     if field.len() <= i {
-        return Nibble::Refused(FIELD_RAN_OUT);
+        return Err(Refusal::FieldRanOut);
     }
     // widened at once: a nibble that is a byte costs its readers more (docs/DECISIONS.md)
-    let b = field[i] as usize;
+    let b = usize::from(field[i]);
     if pos % 2 == 0 {
-        return Nibble::Is(b / 16);
+        return Ok(b / 16);
     }
-    Nibble::Is(b % 16)
+    Ok(b % 16)
 }
 
 // The count after a read at pos: the next one where there is a nibble, and pos itself where the field ran out.
@@ -53,7 +53,7 @@ pub fn on_byte(field: &[u8], pos: usize) -> usize
     if pos / 2 < field.len() {
         return pos + pos % 2;
     }
-    if pos == 18446744073709551615 {
+    if pos == usize::MAX {
         return pos;
     }
     pos + pos % 2
@@ -70,8 +70,8 @@ impl<'a> NibbleReader<'a> {
 
     // The next nibble, and the count goes on; or the field ran out, and the count stays.
     // Ruled out: the low half of a byte first; a count that goes on past the field's end.
-    pub fn read(&mut self) -> Nibble
-        ensures { (result ≡ nibble_answer (nibble_at self.old.buf.now self.old.pos)) × (self.new.buf ≡ self.old.buf) × (self.new.pos ≡ past_nibble self.old.buf.now self.old.pos) }
+    pub fn read(&mut self) -> Result<usize, Refusal>
+        ensures { (answered result ≡ nibble_at self.old.buf.now self.old.pos) × (self.new.buf ≡ self.old.buf) × (self.new.pos ≡ past_nibble self.old.buf.now self.old.pos) }
     {
         let buf = self.buf;
         let pos = self.pos;
@@ -91,8 +91,8 @@ impl<'a> NibbleReader<'a> {
 
 // The nibble at half byte pos, read through a reader.
 // Ruled out: the first nibble whatever pos is; the nibble after pos.
-pub fn read_through(field: &[u8], pos: usize) -> Nibble
-    ensures { result ≡ nibble_answer (nibble_at field.now pos) }
+pub fn read_through(field: &[u8], pos: usize) -> Result<usize, Refusal>
+    ensures { answered result ≡ nibble_at field.now pos }
 {
     let mut reader = NibbleReader::new(field);
     reader.pos = pos;

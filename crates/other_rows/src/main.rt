@@ -12,239 +12,146 @@
 // command, and the same for the stop command.
 #![tactic(auto)]
 
-use bands_model::{BandAnswer, LookAnswer};
-use clock_model::{Micros, Num, Ticks, TimesAnswer};
+use clock_model::{Micros, Ticks};
 use control_model::Spu;
-use demo_model::DemoAnswer;
-use idx_numbers::starts;
-use ps_model::UnitAnswer;
-use rle_model::{CodeAnswer, Cursor, Nibble};
-use spu_model::SpuAnswer;
-use std::io::Read;
+use nibbles::NibbleReader;
+use outcome::Refusal;
+use ps_model::UnitAt;
+use run_rows::Row;
+use std::io;
 
 const FOUND: u8 = 238;
 
-// Writes s. What a write that fails leaves unwritten stays so.
-fn say(rt: &impl Print, s: &[u8]) {
-    let _ = rt.write_all(s);
+// A picture to be written: its size and its indices.
+#[derive(Clone, Copy)]
+struct Picture<'a> {
+    width: usize,
+    height: usize,
+    indices: &'a [u8],
 }
 
-fn decimal(rt: &impl Print, n: u64) {
-    let _ = rt.print(n);
+fn write_refused(rt: &impl Print, refusal: Refusal) -> io::Result<()> {
+    let number = refusal.number();
+    print!(rt; ": refused {number}")
 }
 
-fn digit(rt: &impl Print, n: usize) {
-    let d = (n % 16) as u8;
-    if d < 10 {
-        say(rt, &[48 + d]);
-    } else {
-        say(rt, &[55 + d]);
-    }
-}
-
-fn hex(rt: &impl Print, n: usize) {
-    digit(rt, n / 16);
-    digit(rt, n);
-}
-
-fn mark(rt: &impl Print, c: u8, n: usize) {
-    let kind = c / 16;
-    if kind == 4 {
-        decimal(rt, n as u64);
-        return;
-    }
-    if kind == 5 {
-        hex(rt, n / 256);
-        hex(rt, n);
-        return;
-    }
-    say(rt, &[c]);
-}
-
-fn of_byte(b: u8) -> usize {
-    b as usize
-}
-
-// Writes a form: for bytes 40 to 4F (`@`, `A` to `O`) number 0 to 15 in decimal, for 50 to 5F the same in hexadecimal,
-// and others as they are.
-fn form(rt: &impl Print, s: &[u8], numbers: &[usize; 17]) {
-    let mut i = 0;
-    while i < s.len() {
-        let c = s[i];
-        mark(rt, c, numbers[of_byte(c) % 16]);
-        i += 1;
-    }
-}
-
-fn said(rt: &impl Print, s: &[u8], n: usize) {
-    form(rt, s, &[n; 17]);
-}
-
-fn pair(rt: &impl Print, s: &[u8], a: usize, b: usize) {
-    let mut numbers = [a; 17];
-    numbers[1] = b;
-    form(rt, s, &numbers);
-}
-
-fn refused(rt: &impl Print, n: u8) {
-    said(rt, b": refused @", n as usize);
-}
-
-fn code(rt: &impl Print, field: &[u8], pos: usize, left: usize) {
-    match codes::read_code(field, Cursor { pos }, left) {
-        CodeAnswer::Got {
-            size,
-            value,
-            clipped,
-            next,
-        } => {
-            pair(rt, b": nibbles @ value A", size, value);
-            pair(rt, b" clipped @ next A", clipped as usize, next.pos);
+fn code(rt: &impl Print, row: &Row<'_>) -> io::Result<()> {
+    let mut reader = NibbleReader {
+        buf: row.bytes,
+        pos: row.given(0),
+    };
+    match codes::read_code(&mut reader, row.given(1)) {
+        Ok(code) => {
+            let clipped = u8::from(code.clipped);
+            let next = reader.pos;
+            print!(rt;
+                ": nibbles {} value {} clipped {clipped} next {next}",
+                code.size, code.value
+            )
         }
-        CodeAnswer::Refused(n) => {
-            refused(rt, n);
-        }
+        Err(refusal) => write_refused(rt, refusal),
     }
 }
 
-fn nibble(rt: &impl Print, field: &[u8], pos: usize) {
-    match nibbles::read_through(field, pos) {
-        Nibble::Is(n) => {
-            said(rt, b": nibble @", n);
-        }
-        Nibble::Refused(n) => {
-            refused(rt, n);
-        }
+fn nibble(rt: &impl Print, row: &Row<'_>) -> io::Result<()> {
+    match nibbles::read_through(row.bytes, row.given(0)) {
+        Ok(n) => print!(rt; ": nibble {n}"),
+        Err(refusal) => write_refused(rt, refusal),
     }
 }
 
-fn measured(rt: &impl Print, unit: &[u8]) {
-    match spu::measure_spu(unit) {
-        SpuAnswer::Shows(s) => {
-            let numbers = vobsub_numbers::numbers_of(s);
-            form(
-                rt,
-                b": area @ A B C, selectors T, alphas U, start F G, stop H I, forced J, offsets K L, change M, band words N, codes O",
-                &numbers,
-            );
-            said(rt, b", clipped @", numbers[16]);
-        }
-        SpuAnswer::Refused(n) => {
-            refused(rt, n);
-        }
-    }
-}
-
-fn signed(rt: &impl Print, z: i64) {
-    if z < 0 {
-        say(rt, b" -");
-        let n = (-1 - z) as u64;
-        decimal(rt, n + 1);
-    } else {
-        let m = z as usize;
-        said(rt, b" @", m);
+fn measured(rt: &impl Print, row: &Row<'_>) -> io::Result<()> {
+    match spu::measure_spu(row.bytes) {
+        Ok(s) => run_rows::write_unit(rt, &vobsub_numbers::numbers_of(s)),
+        Err(refusal) => write_refused(rt, refusal),
     }
 }
 
 // The start that a row gives.
-fn start_of(above_least: usize, n: usize) -> Num {
-    if 9223372036854775807 < n {
-        return Num::Over;
-    }
-    let z = n as i64;
+fn start_of(above_least: usize, n: usize) -> Option<i64> {
+    let z = i64::try_from(n).ok()?;
     if above_least == 0 {
-        return Num::Is(z);
+        return Some(z);
     }
-    clock::plus(-9223372036854775808, z)
+    clock::plus(i64::MIN, z)
 }
 
-fn times(rt: &impl Print, line: &[u8], above_least: usize, n: usize) {
-    let Num::Is(z) = start_of(above_least, n) else {
-        return;
+fn ticks(n: usize) -> Ticks {
+    Ticks((n % 65536) as u16)
+}
+
+// The delay of a command, if it stands.
+fn delay_of(stands: usize, delay: usize) -> Option<Ticks> {
+    (stands == 1).then_some(ticks(delay))
+}
+
+fn micros_or_0(time: Option<Micros>) -> i64 {
+    time.map_or(0, |micros| micros.0)
+}
+
+fn times(rt: &impl Print, row: &Row<'_>) -> io::Result<()> {
+    let Some(start) = start_of(row.given(0), row.given(1)) else {
+        return Ok(());
     };
-    let start = Micros(z);
-    let started = table::given(line, 2) == 1;
-    let start_delay = Ticks((table::given(line, 3) % 65536) as u16);
-    let stopped = table::given(line, 4) == 1;
-    let stop_delay = Ticks((table::given(line, 5) % 65536) as u16);
-    match clock::times_of(start, started, start_delay, stopped, stop_delay) {
-        TimesAnswer::Are(t) => {
-            say(rt, b": show");
-            signed(rt, t.show.0);
-            said(rt, b", hides @, hide", t.hides as usize);
-            signed(rt, t.hide.0);
+    let starts = delay_of(row.given(2), row.given(3));
+    let stops = delay_of(row.given(4), row.given(5));
+    match clock::times_of(Micros(start), starts, stops) {
+        Ok(t) => {
+            let show = micros_or_0(t.show);
+            let hides = u8::from(t.hide.is_some());
+            let hide = micros_or_0(t.hide);
+            print!(rt; ": show {show}, hides {hides}, hide {hide}")
         }
-        TimesAnswer::Refused(refusal) => {
-            refused(rt, refusal);
-        }
+        Err(refusal) => write_refused(rt, refusal),
     }
-}
-
-// What the first n words give at column x of line y.
-fn look(rt: &impl Print, words: &[u16], n: usize, x: u16, y: u16) {
-    if n <= words.len() {
-        match look::chg_colcon_lookup(&words[..n], x, y) {
-            LookAnswer::Found { selectors, alphas } => {
-                pair(
-                    rt,
-                    b": selectors P alphas Q",
-                    selectors as usize,
-                    alphas as usize,
-                );
-            }
-            LookAnswer::Nothing => {
-                say(rt, b": nothing");
-            }
-        }
-    }
-}
-
-// The same of an array.
-fn look_in(rt: &impl Print, words: &[u16; 1536], n: usize, x: u16, y: u16) {
-    look(rt, words, n, x, y);
 }
 
 // The words that numbers with blanks between them write, and how many there are.
 fn written(s: &[u8], words: &mut [u16]) -> usize {
-    let mut n = 0;
-    while n < words.len() {
+    for n in 0..words.len() {
         let part = table::part(s, b' ', n);
-        if part.len() == 0 {
+        if part.is_empty() {
             return n;
         }
         words[n] = (table::number(part) % 65536) as u16;
-        n += 1;
     }
-    n
+    words.len()
 }
 
-// How many bands the first n words hold.
-fn held(rt: &impl Print, words: &[u16], n: usize) {
-    if n <= words.len() {
-        said(rt, b": bands @", look::count_bands(&words[..n]));
-    }
-}
-
-fn count_row(rt: &impl Print, line: &[u8]) {
+// How many bands the words hold.
+fn count(rt: &impl Print, row: &Row<'_>) -> io::Result<()> {
     let mut words = [0; 1536];
-    let n = written(table::part(line, b'|', 4), &mut words);
-    held(rt, &words, n);
+    let n = written(table::part(row.line, b'|', 4), &mut words);
+    let Some(front) = words.get(..n) else {
+        return Ok(());
+    };
+    let bands = look::count_bands(front);
+    print!(rt; ": bands {bands}")
 }
 
-fn look_row(rt: &impl Print, line: &[u8], payload: &[u8], x: usize, y: usize) {
+// What the bands give at a column of a line.
+fn look(rt: &impl Print, row: &Row<'_>) -> io::Result<()> {
+    let x = (row.given(0) % 65536) as u16;
+    let y = (row.given(1) % 65536) as u16;
     let mut words = [0; 1536];
-    let n = written(table::part(line, b'|', 4), &mut words);
-    if 0 < n {
-        look(rt, &words, n, (x % 65536) as u16, (y % 65536) as u16);
-        return;
+    let mut n = written(table::part(row.line, b'|', 4), &mut words);
+    if n == 0 {
+        match chg_colcon::parse_chg_colcon_payload(row.bytes, &mut words) {
+            Ok(count) => n = count,
+            Err(refusal) => return write_refused(rt, refusal),
+        }
     }
-    match chg_colcon::parse_chg_colcon_payload(payload, &mut words) {
-        BandAnswer::Words(count) => {
-            look_in(rt, &words, count, (x % 65536) as u16, (y % 65536) as u16);
+    let Some(front) = words.get(..n) else {
+        return Ok(());
+    };
+    match look::chg_colcon_lookup(front, x, y) {
+        Some(four) => {
+            print!(rt;
+                ": selectors {:04X} alphas {:04X}",
+                four.selectors, four.alphas
+            )
         }
-        BandAnswer::Refused(refusal) => {
-            refused(rt, refusal);
-        }
+        None => print!(rt; ": nothing"),
     }
 }
 
@@ -253,19 +160,15 @@ fn built(i: usize, n: usize, pairs: usize) -> u8 {
     if n == 0 {
         return (i % 251) as u8;
     }
-    if 126976 <= i {
-        if i - 126976 < pairs {
-            return (i / 2 % 2) as u8 + 1;
-        }
+    if 126976 <= i && i - 126976 < pairs {
+        return (i / 2 % 2) as u8 + 1;
     }
     (i / n % 2) as u8 + 1
 }
 
 fn fill(s: &mut [u8], n: usize, pairs: usize) {
-    let mut i = 0;
-    while i < s.len() {
-        s[i] = built(i, n, pairs);
-        i += 1;
+    for (i, b) in s.iter_mut().enumerate() {
+        *b = built(i, n, pairs);
     }
 }
 
@@ -275,358 +178,193 @@ fn mixed(sum: usize, b: u8) -> usize {
 }
 
 fn total(s: &[u8]) -> usize {
-    let mut sum = 0;
-    let mut i = 0;
-    while i < s.len() {
-        sum = mixed(sum, s[i]);
-        i += 1;
-    }
-    sum
+    s.iter().fold(0, |sum, b| mixed(sum, *b))
 }
 
-fn summed(rt: &impl Print, line: &[u8], file: &[u8], scratch: &mut [u8]) {
-    let position = table::given(line, 0);
-    let answer = ps::extract_spu(file, position, table::given(line, 1), scratch);
+fn summed(rt: &impl Print, row: &Row<'_>, file: &[u8], scratch: &mut [u8]) -> io::Result<()> {
+    let position = row.given(0);
+    let answer = ps::extract_spu(file, position, row.given(1), scratch);
     match answer {
-        UnitAnswer::Bare(n) => {
-            said(rt, b": bare @,", n);
-        }
-        UnitAnswer::Joined(n) => {
-            said(rt, b": joined @,", n);
-        }
-        UnitAnswer::Refused(n) => {
-            refused(rt, n);
-        }
+        Ok(UnitAt::Bare(n)) => print!(rt; ": bare {n},")?,
+        Ok(UnitAt::Joined(n)) => print!(rt; ": joined {n},")?,
+        Err(refusal) => write_refused(rt, refusal)?,
     }
-    said(
-        rt,
-        b" sum @",
-        total(ps::unit_part(file, &scratch[..], position, answer)),
-    );
-    said(rt, b"; scratch sum @", total(scratch));
-}
-
-fn with_scratch(rt: &impl Print, line: &[u8], file: &[u8], room: usize) {
-    let mut scratch = [FOUND; 65536];
-    if room <= 65536 {
-        summed(rt, line, file, &mut scratch[..room]);
-    }
+    let sum = total(ps::unit_part(file, &scratch[..], position, answer));
+    let scratch_sum = total(scratch);
+    print!(rt; " sum {sum}; scratch sum {scratch_sum}")
 }
 
 // A file whose packets start at its front and at 32,774.
-fn packets(rt: &impl Print, line: &[u8], file: &mut [u8]) {
+fn place_packets(row: &Row<'_>, file: &mut [u8]) {
     fill(file, 0, 0);
-    table::stored(line, 3, file);
-    if file.len() < 32774 {
-        return;
+    row.stored(3, file);
+    if let Some(second) = file.get_mut(32774..) {
+        row.stored(4, second);
     }
-    table::stored(line, 4, &mut file[32774..]);
-    with_scratch(rt, line, file, table::given(line, 2));
 }
 
-fn longest(rt: &impl Print, line: &[u8]) {
+fn packets(rt: &impl Print, row: &Row<'_>) -> io::Result<()> {
     let mut file = [0; 65555];
-    packets(rt, line, &mut file);
+    place_packets(row, &mut file);
+    let mut room = [FOUND; 65536];
+    match room.get_mut(..row.given(2)) {
+        Some(scratch) => summed(rt, row, &file, scratch),
+        None => Ok(()),
+    }
 }
 
 // How many bytes are as found.
 fn found(s: &[u8]) -> usize {
-    let mut n = 0;
-    let mut i = 0;
-    while i < s.len() {
-        n = counted(n, s[i] == FOUND);
-        i += 1;
-    }
-    n
-}
-
-// n, or the next number.
-fn counted(n: usize, more: bool) -> usize {
-    if more {
-        if n < 1000000000 {
-            return n + 1;
-        }
-    }
-    n
-}
-
-fn same(a: &[u8], b: &[u8]) -> bool {
-    if b.len() < a.len() {
-        return false;
-    }
-    let mut i = 0;
-    while i < a.len() {
-        if a[i] != b[i] {
-            return false;
-        }
-        i += 1;
-    }
-    true
+    s.iter().filter(|b| **b == FOUND).count()
 }
 
 // Whether a record is of a picture at 0 0 of that size.
 fn is_sized(s: Spu, width: usize, height: usize) -> bool {
-    if s.x1 != 0 {
-        return false;
-    }
-    if s.y1 != 0 {
-        return false;
-    }
-    if s.x2 as usize + 1 != width {
-        return false;
-    }
-    s.y2 as usize + 1 == height
+    s.x1 == 0 && s.y1 == 0 && s.x2 as usize + 1 == width && s.y2 as usize + 1 == height
 }
 
-// The number of codes that a unit is read back with, 0 where it is not read back as it was written or has a clipped
-// code.
-fn back(unit: &[u8], width: usize, height: usize, indices: &[u8], map: &mut [u8]) -> usize {
-    let record = spu::parse_and_decode_spu(unit, map);
-    let s = record.spu;
-    if record.refused == 0 {
-        if is_sized(s, width, height) {
-            if same(indices, map) {
-                if s.clipped == 0 {
-                    return s.codes;
-                }
-            }
-        }
-    }
-    0
+// The number of codes that a unit is read back with, if it is read back as it was written, without a clipped code.
+fn back(unit: &[u8], picture: Picture<'_>, map: &mut [u8]) -> Option<usize> {
+    let s = spu::parse_and_decode_spu(unit, map).ok()?.spu;
+    let is_same = is_sized(s, picture.width, picture.height) && map.starts_with(picture.indices);
+    (is_same && s.clipped == 0).then_some(s.codes)
 }
 
-fn told_back(rt: &impl Print, codes: usize) {
-    if codes == 0 {
-        say(rt, b"; NOT read back");
-    } else {
-        said(rt, b"; codes @, read back", codes);
-    }
-}
-
-fn bytes_in(rt: &impl Print, s: &[u8]) {
-    let mut i = 0;
-    while i < s.len() {
-        say(rt, b" ");
-        hex(rt, of_byte(s[i]));
-        i += 1;
-    }
+fn build(picture: Picture<'_>, out: &mut [u8]) -> Result<usize, Refusal> {
+    demo::build_demo_spu(picture.width, picture.height, picture.indices, out)
 }
 
 // A picture's answer, with the unit's bytes where `bytes` says so.
-fn tell(
+fn write_built(
     rt: &impl Print,
-    width: usize,
-    height: usize,
-    indices: &[u8],
+    picture: Picture<'_>,
     out: &mut [u8],
-    map: &mut [u8],
     bytes: bool,
-) {
-    match demo::build_demo_spu(width, height, indices, out) {
-        DemoAnswer::Wrote(n) => {
-            if n <= out.len() {
-                said(rt, b": wrote @", n);
-                if bytes {
-                    bytes_in(rt, &out[..n]);
-                }
-                said(rt, b"; found @", found(&out[n..]));
-                told_back(rt, back(&out[..n], width, height, indices, map));
-            }
+) -> io::Result<()> {
+    let n = match build(picture, out) {
+        Ok(n) => n,
+        Err(refusal) => {
+            write_refused(rt, refusal)?;
+            let left = found(out);
+            return print!(rt; "; found {left}");
         }
-        DemoAnswer::Refused(n) => {
-            refused(rt, n);
-            said(rt, b"; found @", found(out));
-        }
+    };
+    let Some((unit, rest)) = out.split_at_checked(n) else {
+        return Ok(());
+    };
+    print!(rt; ": wrote {n}")?;
+    if bytes {
+        run_rows::write_bytes(rt, unit)?;
     }
-}
-
-fn lent(rt: &impl Print, width: usize, height: usize, indices: &[u8], room: usize, bytes: bool) {
-    let mut out = [FOUND; 65536];
+    let left = found(rest);
+    print!(rt; "; found {left}")?;
     let mut map = [FOUND; 131072];
-    if room <= 65536 {
-        tell(
-            rt,
-            width,
-            height,
-            indices,
-            &mut out[..room],
-            &mut map,
-            bytes,
-        );
+    match back(unit, picture, &mut map) {
+        Some(codes) => print!(rt; "; codes {codes}, read back"),
+        None => print!(rt; "; NOT read back"),
     }
 }
 
-// The picture with number k.
-fn numbered(indices: &mut [u8], k: usize) {
-    let mut rest = k;
-    let mut i = 0;
-    while i < indices.len() {
-        indices[i] = (rest % 4) as u8;
-        rest = rest / 4;
-        i += 1;
-    }
-}
-
-fn is_written_in(
-    width: usize,
-    height: usize,
-    indices: &[u8],
-    out: &mut [u8],
-    map: &mut [u8],
-) -> bool {
-    match demo::build_demo_spu(width, height, indices, out) {
-        DemoAnswer::Wrote(n) => {
-            if n <= out.len() {
-                return 0 < back(&out[..n], width, height, indices, map);
-            }
-            false
-        }
-        DemoAnswer::Refused(_) => false,
+fn lent(rt: &impl Print, row: &Row<'_>, picture: Picture<'_>, bytes: bool) -> io::Result<()> {
+    let mut room = [FOUND; 65536];
+    match room.get_mut(..row.given(2)) {
+        Some(out) => write_built(rt, picture, out, bytes),
+        None => Ok(()),
     }
 }
 
 // Whether a picture is written and read back.
-fn is_written(width: usize, height: usize, indices: &[u8]) -> bool {
+fn is_written(picture: Picture<'_>) -> bool {
     let mut out = [FOUND; 64];
     let mut map = [FOUND; 6];
-    is_written_in(width, height, indices, &mut out, &mut map)
+    let Ok(n) = build(picture, &mut out) else {
+        return false;
+    };
+    match out.get(..n) {
+        Some(unit) => back(unit, picture, &mut map).is_some(),
+        None => false,
+    }
 }
 
+// The same of the picture with number k.
 fn is_numbered_written(width: usize, height: usize, indices: &mut [u8], k: usize) -> bool {
-    numbered(indices, k);
-    is_written(width, height, indices)
-}
-
-fn all(rt: &impl Print, width: usize, height: usize, indices: &mut [u8], count: usize) {
-    let mut differ: usize = 0;
-    let mut k = 0;
-    while k < count {
-        let written = is_numbered_written(width, height, indices, k);
-        differ = counted(differ, !written);
-        k += 1;
+    let mut rest = k;
+    for index in indices.iter_mut() {
+        *index = (rest % 4) as u8;
+        rest /= 4;
     }
-    pair(rt, b": @ pictures, A not read back", count, differ);
+    is_written(Picture {
+        width,
+        height,
+        indices,
+    })
 }
 
-fn picture(rt: &impl Print, line: &[u8], indices: &mut [u8], width: usize, height: usize) {
-    let count = table::given(line, 6);
-    if 0 < count {
-        all(rt, width, height, indices, count);
-        return;
-    }
-    fill(indices, table::given(line, 4), table::given(line, 5));
-    lent(rt, width, height, indices, table::given(line, 2), false);
-}
-
-fn sized(
+fn all(
     rt: &impl Print,
-    line: &[u8],
-    indices: &mut [u8],
     width: usize,
     height: usize,
-    size: usize,
-) {
-    if size <= indices.len() {
-        picture(rt, line, &mut indices[..size], width, height);
-    }
+    indices: &mut [u8],
+    count: usize,
+) -> io::Result<()> {
+    let differ = (0..count)
+        .filter(|k| !is_numbered_written(width, height, indices, *k))
+        .count();
+    print!(rt; ": {count} pictures, {differ} not read back")
 }
 
-fn demo(rt: &impl Print, line: &[u8], bytes: &[u8], width: usize, height: usize) {
-    let mut indices = [0; 131072];
-    let size = table::given(line, 3);
+fn demo(rt: &impl Print, row: &Row<'_>) -> io::Result<()> {
+    let width = row.given(0);
+    let height = row.given(1);
+    let size = row.given(3);
     if size == 0 {
-        lent(rt, width, height, bytes, table::given(line, 2), true);
-        return;
+        let indices = row.bytes;
+        let picture = Picture {
+            width,
+            height,
+            indices,
+        };
+        return lent(rt, row, picture, true);
     }
-    sized(rt, line, &mut indices, width, height, size);
+    let mut room = [0; 131072];
+    let Some(indices) = room.get_mut(..size) else {
+        return Ok(());
+    };
+    let count = row.given(6);
+    if 0 < count {
+        return all(rt, width, height, indices, count);
+    }
+    fill(indices, row.given(4), row.given(5));
+    let picture = Picture {
+        width,
+        height,
+        indices,
+    };
+    lent(rt, row, picture, false)
 }
 
-fn asked(rt: &impl Print, line: &[u8], bytes: &[u8]) {
-    let a = table::given(line, 0);
-    let b = table::given(line, 1);
-    if starts(line, b"read_code|") {
-        code(rt, bytes, a, b);
-    }
-    if starts(line, b"read_through|") {
-        nibble(rt, bytes, a);
-    }
-    if starts(line, b"align_through|") {
-        said(rt, b": count @", nibbles::align_through(bytes, a));
-    }
-    if starts(line, b"converted|") {
-        let micros = clock::converted(Ticks((a % 65536) as u16));
-        say(rt, b":");
-        signed(rt, micros.0);
-    }
-    if starts(line, b"times_of|") {
-        times(rt, line, a, b);
-    }
-    if starts(line, b"chg_colcon_lookup|") {
-        look_row(rt, line, bytes, a, b);
-    }
-    if starts(line, b"count_bands|") {
-        count_row(rt, line);
-    }
-    if starts(line, b"measure_spu|") {
-        measured(rt, bytes);
-    }
-    if starts(line, b"extract_spu|") {
-        longest(rt, line);
-    }
-    if starts(line, b"build_demo_spu|") {
-        demo(rt, line, bytes, a, b);
-    }
-}
-
-fn with_bytes(rt: &impl Print, line: &[u8], bytes: &[u8], n: usize) {
-    if n <= bytes.len() {
-        asked(rt, line, &bytes[..n]);
-    }
-}
-
-fn row(rt: &impl Print, line: &[u8]) {
-    let mut bytes = [0; 8192];
-    let n = table::stored(line, 3, &mut bytes);
-    say(rt, table::part(line, b'|', 0));
-    say(rt, b"|");
-    say(rt, table::part(line, b'|', 1));
-    with_bytes(rt, line, &bytes, n);
-    say(rt, b"\n");
-}
-
-// Reads up to the next line end, and answers how many bytes stand before it. A read that fails is the end of input.
-fn next_line(input: &mut impl Read, text: &mut [u8]) -> usize {
-    let mut n = 0;
-    while n < text.len() {
-        let e = n + 1;
-        if input.read(&mut text[n..e]).unwrap_or(0) == 0 {
-            return n;
+fn answer(rt: &impl Print, row: &Row<'_>) -> io::Result<()> {
+    match table::part(row.line, b'|', 0) {
+        b"read_code" => code(rt, row),
+        b"read_through" => nibble(rt, row),
+        b"align_through" => {
+            let count = nibbles::align_through(row.bytes, row.given(0));
+            print!(rt; ": count {count}")
         }
-        if text[n] == b'\n' {
-            return n;
+        b"converted" => {
+            let micros = clock::converted(ticks(row.given(0)));
+            print!(rt; ": {}", micros.0)
         }
-        n = e;
-    }
-    n
-}
-
-// The rows up to an empty line or the end of input.
-fn rows(rt: &(impl Input + Print), text: &mut [u8]) {
-    let mut input = rt.reader();
-    let mut k: usize = 0;
-    while k < 18446744073709551615 {
-        let n = next_line(&mut input, text);
-        if n == 0 {
-            return;
-        }
-        if n <= text.len() {
-            row(rt, &text[..n]);
-        }
-        k += 1;
+        b"times_of" => times(rt, row),
+        b"chg_colcon_lookup" => look(rt, row),
+        b"count_bands" => count(rt, row),
+        b"measure_spu" => measured(rt, row),
+        b"extract_spu" => packets(rt, row),
+        b"build_demo_spu" => demo(rt, row),
+        _ => Ok(()),
     }
 }
 
 fn main(rt: HostRuntime) {
-    let mut text = [0u8; 65536];
-    rows(&rt, &mut text);
+    run_rows::each_row(&rt, |row| answer(&rt, row));
 }

@@ -3,7 +3,9 @@ use Prim.Native.Nat.{ℕ, ◌-◌}
 use mathlib.Core.Path.{◌≡◌, refl}
 use mathlib.Core.List.{[], ◌∷◌}
 use lib.Dec.{eqb}
-use Rattle.outcome.specs.Outcome.{ok, cons_res}
+use Rattle.std.specs.Prelude.{Err}
+use Rattle.outcome.specs.declared.Refusal.TheVariants.{BadWidth}
+use Rattle.outcome.specs.Outcome.{ok, refuse, cons_res, answered}
 use Rattle.outcome.specs.Lists.{list_fuel, list_from}
 
 -- an item in front of none
@@ -14,3 +16,7 @@ one-item = refl
 pub two_items : list_from (λ (n : ℕ). eqb n 0) (λ n. ok n) (λ n a. n - 1) (λ n. n) 2 ≡ ok (2 ∷ 1 ∷ [])
 unfolding list_from list_fuel
 two_items = refl
+
+-- a refusal is answered by its number
+pub width_answered : answered {A = ℕ} (Err BadWidth) ≡ refuse 2
+width_answered = refl

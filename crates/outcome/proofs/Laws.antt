@@ -5,11 +5,13 @@ use native.Mathlib.Omega.{arith}
 use mathlib.Core.Path.{◌≡◌, refl, sym, ap, ◌∙◌}
 use mathlib.Core.Bool.{Bool, true, false, not, ◌&&◌}
 use mathlib.Core.Logic.{◌⊎◌, inl, inr}
-use mathlib.Core.Option.{Option, some, none}
-use mathlib.Core.List.{List, [], ◌∷◌, ◌++◌}
+use Rattle.std.specs.Prelude.{Option, Some as some, None as none}
+use mathlib.Core.List.{List, [], ◌∷◌, ◌++◌, append_assoc}
 use lib.Dec.{leb}
 use lib.ListN.{length, get_or, set, take, drop}
-use lib.Seq.{sets, slice, take-nil, take-suc, take_all, length-take-le, length-sets}
+use lib.Seq.{sets, slice, drop-drop, take-nil, take-suc, take_all, length-take-le, length-sets}
+use borrow.Rule.Slice.PartMut.{put_mid}
+use Rattle.std.proofs.lemmas.List.Edits.{sets-eq}
 use borrow.Author.Tests.{leb-true, leb-false}
 use Rattle.outcome.specs.Outcome.{Res, ok, refuse, check, need, and_then, cons_res, map_res}
 
@@ -98,6 +100,11 @@ sets-append l i [] b = let z : i + 0 ≡ i = omega arith in rw z
 sets-append l i (x ∷ a) b =
     let z : i + suc (length a) ≡ suc i + length a = omega arith in
     rw z (sets-append (set l i x) (suc i) a b)
+
+-- a part of a slice that is written over, as stores one after the other
+pub part_stored : (a k : ℕ) (xs ys : List ℕ) → length ys ≡ k → a + k ≤ length xs → put_mid a k xs ys ≡ sets xs a ys
+part_stored a k xs ys e h =
+    ap (λ (l : List ℕ). take a xs ++ (ys ++ l)) (drop-drop k a xs ∙ ap (λ (m : ℕ). drop (a + m) xs) (sym e)) ∙ sym (append_assoc (take a xs) ys _) ∙ sym (sets-eq ys xs a (omega (arith, e, h)))
 
 -- a part of a slice, as the code takes it
 pub part_slice : (a e : ℕ) (l : List ℕ) → take (e - a) (drop a l) ≡ slice a e l

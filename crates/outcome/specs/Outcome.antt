@@ -1,7 +1,9 @@
 -- What a definition of the reader answers: a value, or the number of a refusal in the table of docs/FORMAT.md.
 -- Assumes nothing: these are definitions.
-use Rattle.std.specs.Prelude.{ℕ, ◌≡◌, Bool, true, false, cond, ◌||◌, List, [], ◌∷◌, eqb}
-use Rattle.std.proofs.Math.Option.{Option, some, none}
+use Rattle.std.specs.Prelude.{ℕ, ◌≡◌, Bool, true, false, cond, ◌||◌, List, [], ◌∷◌, eqb, Result, Ok, Err}
+use Rattle.outcome.specs.declared.Refusal.{Refusal}
+use Rattle.outcome.specs.declared.Refusal.TheVariants.{HighByte, BadWidth, BadHeight, BadToken, NoTime, NoPosition, BadTime, LongTime, BadPosition, LargePosition, ShortCues, BadStream, NoCue, PastFile, NoUnit, ShortScratch, NoHead, BadHead, CutParameters, SmallSize, NoBandList, UnknownCommand, NoArea, ManyBands, ShortPixels, ShortCanvas, NoTopField, FieldRanOut, LongInstant, BadSide, NotAllIndices, BadIndex, LongUnit, ShortOutput}
+use Rattle.std.specs.Prelude.{Option, Some as some, None as none}
 
 pub data Res (A : Type 0) : Type 0 where
   ok : A → Res A
@@ -109,6 +111,48 @@ long_unit = 30
 
 abbrev pub short_output : ℕ
 short_output = 31
+
+-- the number of each
+abbrev pub number_of : Refusal → ℕ
+number_of HighByte = high_byte
+number_of BadWidth = bad_width
+number_of BadHeight = bad_height
+number_of BadToken = bad_token
+number_of NoTime = no_time
+number_of NoPosition = no_position
+number_of BadTime = bad_time
+number_of LongTime = long_time
+number_of BadPosition = bad_position
+number_of LargePosition = large_position
+number_of ShortCues = short_cues
+number_of BadStream = bad_stream
+number_of NoCue = no_cue
+number_of PastFile = past_file
+number_of NoUnit = no_unit
+number_of ShortScratch = short_scratch
+number_of NoHead = no_head
+number_of BadHead = bad_head
+number_of CutParameters = cut_parameters
+number_of SmallSize = small_size
+number_of NoBandList = no_band_list
+number_of UnknownCommand = unknown_command
+number_of NoArea = no_area
+number_of ManyBands = many_bands
+number_of ShortPixels = short_pixels
+number_of ShortCanvas = short_canvas
+number_of NoTopField = no_top_field
+number_of FieldRanOut = field_ran_out
+number_of LongInstant = long_instant
+number_of BadSide = bad_side
+number_of NotAllIndices = not_all_indices
+number_of BadIndex = bad_index
+number_of LongUnit = long_unit
+number_of ShortOutput = short_output
+
+-- an answer of the code, by the number of its refusal
+abbrev pub answered : {A : Type 0} → Result A Refusal → Res A
+answered (Ok a) = ok a
+answered (Err e) = refuse (number_of e)
 
 -- the table of refusals (FORMAT 9): every number that is returned for one, and no other, in the table's order
 abbrev pub refusals : List ℕ

@@ -1,200 +1,155 @@
 // The packet at a place of a program stream, and the body of a PES packet (docs/FORMAT.md, 2.2 to 2.7).
 #![tactic(auto)]
 
-ghost use Rattle.std.specs.Prelude.{◌≡◌, ◌≤◌, ◌<◌, ◌+◌, ◌-◌, length};
-ghost use Rattle.std.proofs.Math.Option.{none};
-ghost use Rattle.outcome.specs.Outcome.{ok};
+ghost use Rattle.std.specs.Prelude.{◌≡◌, ◌≤◌, ◌<◌, ◌+◌, ◌-◌, length, eqb, leb};
+ghost use Rattle.std.specs.Prelude.{None as none};
+ghost use Rattle.std.specs.Option.{option_copied};
+ghost use Rattle.std.specs.List.{prefix_len};
+ghost use Rattle.outcome.specs.Outcome.{ok, answered, check, no_unit};
 ghost use Rattle.grammar.specs.Bytes.{word};
 ghost use Rattle.grammar.specs.Packets.{buffer_size, stamp_size, is_id};
-ghost use Rattle.ps_model.specs.OnePacket.{leading, header1_at, body_at, packet, pack_at, private_at, packet_at};
-ghost use Rattle.ps_model.specs.PacketAnswers.{body_given, body_answer, body_found, body_rest, packet_given, whole_given};
+ghost use Rattle.ps_model.specs.OnePacket.{header1_at, body_at, packet, pack_at, private_at, packet_at};
+ghost use Rattle.ps_model.specs.PacketAnswers.{body_given, body_answer, body_part, packet_given, whole_given};
 
-use outcome::{NO_UNIT, word_of};
-use ps_model::{BodyAnswer, PacketAnswer};
+use outcome::{Refusal, word_of};
+use ps_model::PacketAt;
 
-// How many of the first 16 bytes are stuffing, up to the first that is not.
-fn stuffing(pes: &[u8]) -> usize
-    ensures { result ≡ leading 16 pes.now 0 }
+// How many of the bytes are stuffing, up to the first that is not.
+fn stuffing(front: &[u8]) -> usize
+    ensures { result ≡ prefix_len (λ x. eqb x 0xFF) front.now }
 {
-    let mut n = 0;
-    while n < 16 {
-        if pes.len() <= n {
-            return n;
-        }
-        if pes[n] != 0xFF {
-            return n;
-        }
-        n += 1;
-    }
-    n
+    front.iter().take_while(|&&byte| byte == 0xFF).count()
 }
 
 // The bytes of a buffer size that starts with b.
 fn buffer_size(b: u8) -> usize
     ensures { (result ≡ buffer_size b) × (result ≤ 2) }
 {
-    if b / 64 == 1 {
-        return 2;
+    match b {
+        0x40..=0x7F => 2,
+        _ => 0,
     }
-    0
 }
 
 // The bytes of stamps that start with b.
 fn stamp_size(b: u8) -> usize
     ensures { (result ≡ stamp_size b) × (result ≤ 10) }
 {
-    if b / 16 == 2 {
-        return 5;
+    match b {
+        0x20..=0x2F => 5,
+        0x30..=0x3F => 10,
+        0x0F => 1,
+        _ => 0,
     }
-    if b / 16 == 3 {
-        return 10;
+}
+
+// The place n bytes after `at`, where the bytes reach it.
+fn after(bytes: &[u8], at: usize, n: usize) -> Result<usize, Refusal>
+    requires { at ≤ length bytes.now }
+    ensures { answered result ≡ check (leb (at + n) (length bytes.now)) no_unit (ok (at + n)) }
+{
+    if bytes.len() - at < n {
+        return Err(Refusal::NoUnit);
     }
-    if b == 0x0F {
-        return 1;
-    }
-    0
+    Ok(at + n)
 }
 
 // The body behind a header in the older form, with n bytes of stuffing.
-fn older_body(pes: &[u8], n: usize) -> BodyAnswer
+fn older_body(pes: &[u8], n: usize) -> Result<usize, Refusal>
     requires { n ≤ 16 }
-    ensures { result ≡ body_answer (length pes.now) (header1_at pes.now 0 (length pes.now) n) }
+    ensures { answered result ≡ body_answer (length pes.now) (header1_at pes.now 0 (length pes.now) n) }
 {
-    if pes.len() <= n {
-        return BodyAnswer::Refused(NO_UNIT);
-    }
-    let stamp = n + buffer_size(pes[n]);
-    if pes.len() <= stamp {
-        return BodyAnswer::Refused(NO_UNIT);
-    }
-    let body = stamp + stamp_size(pes[stamp]);
-    if pes.len() < body {
-        return BodyAnswer::Refused(NO_UNIT);
-    }
-    BodyAnswer::At(body)
+    let first = pes.get(n).ok_or(Refusal::NoUnit)?;
+    let at = n + buffer_size(*first);
+    let stamp = pes.get(at).ok_or(Refusal::NoUnit)?;
+    after(pes, at, stamp_size(*stamp))
 }
 
 // The body of a PES.
-fn body_start(pes: &[u8]) -> BodyAnswer
-    ensures { result ≡ body_given (body_at pes.now 0 (length pes.now)) }
+fn body_start(pes: &[u8]) -> Result<usize, Refusal>
+    ensures { answered result ≡ body_given (body_at pes.now 0 (length pes.now)) }
 {
-    if pes.len() == 0 {
-        return BodyAnswer::Refused(NO_UNIT);
+    let first = pes.first().ok_or(Refusal::NoUnit)?;
+    if first / 64 == 2 {
+        let size = pes.get(2).ok_or(Refusal::NoUnit)?;
+        return after(pes, 3, *size as usize);
     }
-    if pes[0] / 64 == 2 {
-        if pes.len() < 3 {
-            return BodyAnswer::Refused(NO_UNIT);
-        }
-        let body = 3 + pes[2] as usize;
-        if pes.len() < body {
-            return BodyAnswer::Refused(NO_UNIT);
-        }
-        return BodyAnswer::At(body);
-    }
-    let n = stuffing(pes);
+    // no more than 16 of them
+    let n = stuffing(&pes[..pes.len().min(16)]);
     older_body(pes, n)
 }
 
-// The body of a PES, as the rest of it; `found` says whether there is one.
+// The body of a PES, as the rest of it.
 // Ruled out: stuffing looked for in a header of the newer form; a rest that starts past the PES.
-pub fn parse_pes_body<'a>(pes: &'a [u8], found: &mut bool) -> &'a [u8]
-    ensures { (result.now ≡ body_rest pes.now (body_at pes.now 0 (length pes.now))) × (found.new ≡ body_found (body_at pes.now 0 (length pes.now))) }
+pub fn parse_pes_body(pes: &[u8]) -> Option<&[u8]>
+    ensures { option_copied result ≡ body_part pes.now (body_at pes.now 0 (length pes.now)) }
 {
-    match body_start(pes) {
-        BodyAnswer::At(body) => {
-            *found = true;
-            &pes[body..]
-        }
-        BodyAnswer::Refused(_) => {
-            *found = false;
-            &pes[0..0]
-        }
-    }
+    let body = body_start(pes).ok()?;
+    Some(&pes[body..])
 }
 
 // A packet of `size` bytes that keeps nothing.
-fn passing(file: &[u8], at: usize, size: usize) -> PacketAnswer
+fn passing(file: &[u8], at: usize, size: usize) -> Result<PacketAt, Refusal>
     requires { at ≤ length file.now }
-    ensures { result ≡ whole_given (length file.now) (ok (packet file.now at (at + size) none)) }
+    ensures { answered result ≡ whole_given (length file.now) (ok (packet file.now at (at + size) none)) }
 {
-    if file.len() - at < size {
-        return PacketAnswer::Refused(NO_UNIT);
-    }
-    PacketAnswer::Passes(at + size)
+    let end = after(file, at, size)?;
+    Ok(PacketAt::Passes(end))
 }
 
 // A pack header.
-fn pack(file: &[u8], at: usize) -> PacketAnswer
+fn pack(file: &[u8], at: usize) -> Result<PacketAt, Refusal>
     requires { at + 6 ≤ length file.now }
-    ensures { result ≡ whole_given (length file.now) (pack_at file.now at) }
+    ensures { answered result ≡ whole_given (length file.now) (pack_at file.now at) }
 {
     if file[at + 4] / 64 == 1 {
-        if file.len() - at < 14 {
-            return PacketAnswer::Refused(NO_UNIT);
-        }
-        let size = 14 + (file[at + 13] % 8) as usize;
-        return passing(file, at, size);
+        after(file, at, 14)?;
+        return passing(file, at, 14 + (file[at + 13] % 8) as usize);
     }
     if file[at + 4] / 16 == 2 {
         return passing(file, at, 12);
     }
-    PacketAnswer::Refused(NO_UNIT)
+    Err(Refusal::NoUnit)
 }
 
 // A private_stream_1 packet of `size` bytes after its length word, which keeps something where its body has that id.
-fn private_stream(file: &[u8], at: usize, size: usize, id: u8) -> PacketAnswer
+fn private_stream(file: &[u8], at: usize, size: usize, id: u8) -> Result<PacketAt, Refusal>
     requires { (at + 6 ≤ length file.now) × (size ≡ word file.now (at + 4)) }
-    ensures { result ≡ whole_given (length file.now) (private_at (is_id id) file.now at) }
+    ensures { answered result ≡ whole_given (length file.now) (private_at (is_id id) file.now at) }
 {
     let start = at + 6;
-    if file.len() - start < size {
-        return PacketAnswer::Refused(NO_UNIT);
+    let end = after(file, start, size)?;
+    let body = parse_pes_body(&file[start..end]).ok_or(Refusal::NoUnit)?;
+    match body {
+        [first, kept @ ..] if *first == id => Ok(PacketAt::Keeps(end - kept.len(), end)),
+        _ => Ok(PacketAt::Passes(end)),
     }
-    let end = start + size;
-    let mut found = false;
-    let body = parse_pes_body(&file[start..end], &mut found);
-    if !found {
-        return PacketAnswer::Refused(NO_UNIT);
-    }
-    if body.len() == 0 {
-        return PacketAnswer::Passes(end);
-    }
-    if body[0] == id {
-        return PacketAnswer::Keeps(end - (body.len() - 1), end);
-    }
-    PacketAnswer::Passes(end)
 }
+
+// Start codes: of a pack header, of a private_stream_1 packet, and of the program's end.
+const PACK: u8 = 0xBA;
+
+const PRIVATE: u8 = 0xBD;
+
+const ENDING: u8 = 0xB9;
 
 // The packet at a place; a body with that id keeps what follows it.
 // Ruled out: a packet that ends past the file; a body with another id kept.
-pub fn read_packet(file: &[u8], at: usize, id: u8) -> PacketAnswer
-    ensures { result ≡ packet_given (packet_at (is_id id) file.now at) }
+pub fn read_packet(file: &[u8], at: usize, id: u8) -> Result<PacketAt, Refusal>
+    ensures { answered result ≡ packet_given (packet_at (is_id id) file.now at) }
 {
-    if file.len() < 6 {
-        return PacketAnswer::Refused(NO_UNIT);
+    let packet = file.get(at..).ok_or(Refusal::NoUnit)?;
+    let [a, b, c, code, high, low, ..] = packet else {
+        return Err(Refusal::NoUnit);
+    };
+    if [*a, *b, *c] != [0, 0, 1] {
+        return Err(Refusal::NoUnit);
     }
-    if file.len() - 6 < at {
-        return PacketAnswer::Refused(NO_UNIT);
+    let size = word_of(*high, *low);
+    match *code {
+        PACK => pack(file, at),
+        PRIVATE => private_stream(file, at, size, id),
+        ENDING => Err(Refusal::NoUnit),
+        _ => passing(file, at, 6 + size),
     }
-    if file[at] != 0 {
-        return PacketAnswer::Refused(NO_UNIT);
-    }
-    if file[at + 1] != 0 {
-        return PacketAnswer::Refused(NO_UNIT);
-    }
-    if file[at + 2] != 1 {
-        return PacketAnswer::Refused(NO_UNIT);
-    }
-    let code = file[at + 3];
-    if code == 0xBA {
-        return pack(file, at);
-    }
-    let size = word_of(file[at + 4], file[at + 5]);
-    if code == 0xBD {
-        return private_stream(file, at, size, id);
-    }
-    if code == 0xB9 {
-        return PacketAnswer::Refused(NO_UNIT);
-    }
-    passing(file, at, 6 + size)
 }

@@ -2,19 +2,20 @@
 #![tactic(auto)]
 
 ghost use Rattle.std.specs.Prelude.{◌≡◌, cond, List, [], ◌≤◌, ◌<◌, ◌+◌, ◌-◌, ltb, length, take, drop};
+ghost use Rattle.std.specs.Prelude.{Some as some, None as none};
 ghost use Rattle.std.proofs.lemmas.List.Edits.{sets};
 ghost use Rattle.std.proofs.Math.Seq.{slice};
 ghost use Rattle.ps_model.specs.Claim.{Says, Undisturbed};
-ghost use Rattle.outcome.specs.Outcome.{ok};
+ghost use Rattle.outcome.specs.Outcome.{ok, answered};
 ghost use Rattle.grammar.specs.Bytes.{byte, word};
 ghost use Rattle.grammar.specs.Packets.{Packet, packets, unit_of, is_id};
 ghost use Rattle.ps_model.specs.Packets.{packets_at, is_bare};
 ghost use Rattle.ps_model.specs.Unit.{joined_at};
 ghost use Rattle.ps_model.specs.Answers.{joined_given, unit_given, unit_stored, unit_part, Extracted};
 
-use outcome::{BAD_STREAM, PAST_FILE, SHORT_SCRATCH, lesser, word_of};
+use outcome::{Refusal, word_of};
 use packets::read_packet;
-use ps_model::{JoinedAnswer, PacketAnswer, UnitAnswer};
+use ps_model::{PacketAt, UnitAt};
 
 // The greatest stream.
 pub const TOP_STREAM: usize = 31;
@@ -30,37 +31,32 @@ fn joined_byte(file: &[u8], a: usize, e: usize, have: usize, j: usize, old: u8) 
     if j < have {
         return old;
     }
-    let i = j - have;
-    if e - a <= i {
-        return 0;
-    }
-    file[a + i]
+    file[a..e].get(j - have).copied().unwrap_or(0)
 }
 
 // How many bytes the packets give a unit: those with that id.
-fn measure_packets(file: &[u8], from: usize, id: u8) -> JoinedAnswer
-    ensures { result ≡ joined_given (packets_at (is_id id) file.now from []) }
+fn measure_packets(file: &[u8], from: usize, id: u8) -> Result<usize, Refusal>
+    ensures { answered result ≡ joined_given (packets_at (is_id id) file.now from []) }
 {
     let mut at = from;
     let mut have: usize = 0;
     let mut first: u8 = 0;
     let mut second: u8 = 0;
+    // It goes on by what was read: no index is counted. `join_packets` stores where this measures: the two share the walk
+    // alone, and a closure for the step would have contracts as long as both.
     loop {
-        match read_packet(file, at, id) {
-            PacketAnswer::Refused(n) => {
-                return JoinedAnswer::Refused(n);
-            }
-            PacketAnswer::Passes(end) => {
+        match read_packet(file, at, id)? {
+            PacketAt::Passes(end) => {
                 at = end;
             }
-            PacketAnswer::Keeps(a, end) => {
+            PacketAt::Keeps(a, end) => {
                 first = joined_byte(file, a, end, have, 0, first);
                 second = joined_byte(file, a, end, have, 1, second);
                 have = have + (end - a);
                 if 2 <= have {
                     let t = word_of(first, second);
                     if t <= have {
-                        return JoinedAnswer::Holds(t);
+                        return Ok(t);
                     }
                 }
                 at = end;
@@ -74,11 +70,7 @@ fn copy(file: &[u8], a: usize, m: usize, scratch: &mut [u8], to: usize)
     requires { (a + m ≤ length file.now) × (to + m ≤ length scratch.old) }
     ensures { scratch.new ≡ sets scratch.old to (take m (drop a file.now)) }
 {
-    let mut i = 0;
-    while i < m {
-        scratch[to + i] = file[a + i];
-        i += 1;
-    }
+    scratch[to..to + m].copy_from_slice(&file[a..a + m]);
 }
 
 // The unit of t bytes that the packets give, into the front of scratch.
@@ -88,16 +80,17 @@ fn join_packets(file: &[u8], from: usize, id: u8, t: usize, scratch: &mut [u8])
 {
     let mut at = from;
     let mut have: usize = 0;
+    // It goes on by what was read: no index is counted.
     while have < t {
-        match read_packet(file, at, id) {
-            PacketAnswer::Refused(_) => {
-                return;
-            }
-            PacketAnswer::Passes(end) => {
+        let Ok(packet) = read_packet(file, at, id) else {
+            return;
+        };
+        match packet {
+            PacketAt::Passes(end) => {
                 at = end;
             }
-            PacketAnswer::Keeps(a, end) => {
-                let m = lesser(end - a, t - have);
+            PacketAt::Keeps(a, end) => {
+                let m = (end - a).min(t - have);
                 copy(file, a, m, scratch, have);
                 have = have + m;
                 at = end;
@@ -107,55 +100,60 @@ fn join_packets(file: &[u8], from: usize, id: u8, t: usize, scratch: &mut [u8])
 }
 
 // The unit that packets with that id give, in the front of scratch, which is as found on a refusal.
-fn extract_spu_from_ps(file: &[u8], from: usize, id: u8, scratch: &mut [u8]) -> UnitAnswer
-    ensures { (result ≡ unit_given (joined_at (is_id id) file.now from (length scratch.old))) × (scratch.new ≡ sets scratch.old 0 (unit_stored (joined_at (is_id id) file.now from (length scratch.old)))) }
+fn extract_spu_from_ps(
+    file: &[u8],
+    from: usize,
+    id: u8,
+    scratch: &mut [u8],
+) -> Result<UnitAt, Refusal>
+    ensures { (answered result ≡ unit_given (joined_at (is_id id) file.now from (length scratch.old))) × (scratch.new ≡ sets scratch.old 0 (unit_stored (joined_at (is_id id) file.now from (length scratch.old)))) }
 {
-    match measure_packets(file, from, id) {
-        JoinedAnswer::Holds(t) => {
-            if scratch.len() < t {
-                return UnitAnswer::Refused(SHORT_SCRATCH);
-            }
-            join_packets(file, from, id, t, scratch);
-            UnitAnswer::Joined(t)
-        }
-        JoinedAnswer::Refused(n) => UnitAnswer::Refused(n),
+    let t = measure_packets(file, from, id)?;
+    if scratch.len() < t {
+        return Err(Refusal::ShortScratch);
     }
+    join_packets(file, from, id, t, scratch);
+    Ok(UnitAt::Joined(t))
 }
 
-// The length of a bare unit; 0 where none stands.
-fn bare_size(file: &[u8], at: usize) -> usize
+// The length of a bare unit, where one stands.
+fn bare_size(file: &[u8], at: usize) -> Option<usize>
     requires { at ≤ length file.now }
-    ensures { result ≡ cond (is_bare file.now at) (word file.now at) 0 }
+    ensures { result ≡ cond (is_bare file.now at) (some (word file.now at)) none }
 {
     if file.len() - at < 4 {
-        return 0;
+        return None;
     }
     let size = word_of(file[at], file[at + 1]);
     if size < 4 {
-        return 0;
+        return None;
     }
     if file.len() - at < size {
-        return 0;
+        return None;
     }
-    size
+    Some(size)
 }
 
 // The unit of a stream at a position: in the file, or in the front of scratch, which is as found otherwise.
 // Ruled out: scratch written before the last packet is known to be whole; a unit that packets give read from the file's
 // own bytes; bytes of another stream in a unit.
-pub fn extract_spu(file: &[u8], position: usize, stream: usize, scratch: &mut [u8]) -> UnitAnswer
-    ensures { Extracted file.now position stream scratch.old result scratch.new × Says file.now position stream scratch.old scratch.new result
-        × Undisturbed file.now position stream scratch.old result scratch.new }
+pub fn extract_spu(
+    file: &[u8],
+    position: usize,
+    stream: usize,
+    scratch: &mut [u8],
+) -> Result<UnitAt, Refusal>
+    ensures { Extracted file.now position stream scratch.old (answered result) scratch.new × Says file.now position stream scratch.old scratch.new (answered result)
+        × Undisturbed file.now position stream scratch.old (answered result) scratch.new }
 {
     if TOP_STREAM < stream {
-        return UnitAnswer::Refused(BAD_STREAM);
+        return Err(Refusal::BadStream);
     }
     if file.len() <= position {
-        return UnitAnswer::Refused(PAST_FILE);
+        return Err(Refusal::PastFile);
     }
-    let size = bare_size(file, position);
-    if 0 < size {
-        return UnitAnswer::Bare(size);
+    if let Some(size) = bare_size(file, position) {
+        return Ok(UnitAt::Bare(size));
     }
     let id = FIRST_ID + stream as u8;
     extract_spu_from_ps(file, position, id, scratch)
@@ -165,14 +163,9 @@ pub fn extract_spu(file: &[u8], position: usize, stream: usize, scratch: &mut [u
 fn part<'a>(s: &'a [u8], a: usize, n: usize) -> &'a [u8]
     ensures { result.now ≡ take n (drop a s.now) }
 {
-    if s.len() <= a {
-        return &s[0..0];
-    }
-    if s.len() - a < n {
-        return &s[a..];
-    }
-    let end = a + n;
-    &s[a..end]
+    let start = a.min(s.len());
+    let end = start + n.min(s.len() - start);
+    &s[start..end]
 }
 
 // The bytes of the unit that `extract_spu` found, from whichever of file and scratch holds them; none after a refusal.
@@ -181,13 +174,13 @@ pub fn unit_part<'a>(
     file: &'a [u8],
     scratch: &'a [u8],
     position: usize,
-    unit: UnitAnswer,
+    unit: Result<UnitAt, Refusal>,
 ) -> &'a [u8]
-    ensures { result.now ≡ unit_part file.now scratch.now position unit }
+    ensures { result.now ≡ unit_part file.now scratch.now position (answered unit) }
 {
     match unit {
-        UnitAnswer::Bare(n) => part(file, position, n),
-        UnitAnswer::Joined(n) => part(scratch, 0, n),
-        UnitAnswer::Refused(_) => &file[0..0],
+        Ok(UnitAt::Bare(n)) => part(file, position, n),
+        Ok(UnitAt::Joined(n)) => part(scratch, 0, n),
+        Err(_) => &file[0..0],
     }
 }

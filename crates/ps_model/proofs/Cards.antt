@@ -2,7 +2,7 @@
 use Prim.Native.Nat.{ℕ}
 use mathlib.Core.Path.{◌≡◌, refl}
 use mathlib.Core.Bool.{true, false}
-use mathlib.Core.Option.{some}
+use Rattle.std.specs.Prelude.{Some as some}
 use mathlib.Core.List.{List, [], ◌∷◌}
 use Rattle.outcome.specs.Outcome.{ok, refuse, refusal_of, map_res, no_unit, bad_stream}
 use Rattle.outcome.specs.Lists.{list_fuel, list_from}

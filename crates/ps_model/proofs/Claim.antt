@@ -16,7 +16,7 @@ use Rattle.ps_model.specs.Packets.{form_at}
 use Rattle.ps_model.specs.Unit.{unit_at, stream_unit}
 use Rattle.ps_model.specs.Answers.{form_given, form_stored, unit_given, unit_stored, unit_part, Extracted}
 use Rattle.ps_model.specs.Claim.{Holds, Says, Undisturbed}
-use Rattle.ps_model.specs.declared.UnitAnswer.{UnitAnswer}
+use Rattle.ps_model.specs.declared.UnitAt.{UnitAt}
 use Rattle.ps_model.proofs.Grammar.{form_iff}
 use Rattle.grammar.proofs.Streams.{forms_same}
 use Rattle.ps_model.proofs.Streams.{stream_same}
@@ -42,7 +42,7 @@ module _ (id : ℕ → Bool) (f : List ℕ) (p : ℕ) where
 
   -- the part that an answer speaks of is the unit
   pub unit-there : (s : List ℕ) (m : Form) → IsForm id f p m → scratch_for m ≤ length s
-      → unit_part f (sets s 0 (form_stored m)) p (form_given m) ≡ unit_of m
+      → unit_part f (sets s 0 (form_stored m)) p (ok (form_given m)) ≡ unit_of m
   unfolding unit_of
   unit-there s (bare u) h k =
       let b = h.1.bytes_are in
@@ -68,11 +68,11 @@ module _ (f : List ℕ) (p n : ℕ) where
   unfolding stream_unit
   stream-complete k m l e h = rw (le-leb n top_stream l) (unit-complete (stream_id n) f p k m e h)
 
-  pub claim : (s : List ℕ) (r : UnitAnswer) (s' : List ℕ) → Extracted f p n s r s' → Says f p n s s' r
+  pub claim : (s : List ℕ) (r : Res UnitAt) (s' : List ℕ) → Extracted f p n s r s' → Says f p n s s' r
   claim s r s' d = go (stream_unit n f p (length s)) refl d.answer d.scratch
     where
       holds : (m : Form) → stream_unit n f p (length s) ≡ ok m → s' ≡ sets s 0 (form_stored m)
-          → Holds f p n s s' (form_given m) m
+          → Holds f p n s s' (ok (form_given m)) m
       holds m q g =
           let x = stream_sound (length s) m q in
           let y = (form_iff (stream_id n) f p m).0 x.1 in
@@ -82,11 +82,11 @@ module _ (f : List ℕ) (p n : ℕ) where
             form = y.1;
             room = x.2;
             answer = refl;
-            unit = ap (λ (t : List ℕ). unit_part f t p (form_given m)) g ∙ unit-there (stream_id n) f p s m y.1 x.2;
+            unit = ap (λ (t : List ℕ). unit_part f t p (ok (form_given m))) g ∙ unit-there (stream_id n) f p s m y.1 x.2;
             stored = g ∙ ap (sets s 0) (form_stored_lem m);
           }
 
-      said : (m : Form) → Holds f p n s s' (form_given m) m → Says f p n s s' (form_given m)
+      said : (m : Form) → Holds f p n s s' (ok (form_given m)) m → Says f p n s s' (ok (form_given m))
       said (bare u) h = (bare u, h)
       said (packets ps) h = (packets ps, h)
 
@@ -97,7 +97,7 @@ module _ (f : List ℕ) (p n : ℕ) where
           subst (Says f p n s s') (sym e) (g, λ m o l i h. ok-not-refuse (sym q ∙ stream-complete (length s) m o ((form_iff (stream_id n) f p m).1 (l, i)) h))
 
 -- the unit that an answer speaks of
-unit_is : (f : List ℕ) (p n : ℕ) (s : List ℕ) (r : UnitAnswer) (s' : List ℕ) → Extracted f p n s r s'
+unit_is : (f : List ℕ) (p n : ℕ) (s : List ℕ) (r : Res UnitAt) (s' : List ℕ) → Extracted f p n s r s'
     → unit_part f s' p r ≡ listed_by (stream_unit n f p (length s)) unit_of
 unit_is f p n s r s' d = go (stream_unit n f p (length s)) refl d.answer d.scratch
   where
@@ -111,7 +111,7 @@ unit_is f p n s r s' d = go (stream_unit n f p (length s)) refl d.answer d.scrat
     go (refuse k) q e g = ap (unit_part f s' p) e
 
 -- what other streams carry does not count
-pub undisturbed : (f : List ℕ) (p n : ℕ) (s : List ℕ) (r : UnitAnswer) (s' : List ℕ) → Extracted f p n s r s'
+pub undisturbed : (f : List ℕ) (p n : ℕ) (s : List ℕ) (r : Res UnitAt) (s' : List ℕ) → Extracted f p n s r s'
     → Undisturbed f p n s r s'
 undisturbed f p n s r s' d g ps w a t s'' e =
     let q = stream_same n f g p ps w a (length s) in
@@ -123,6 +123,6 @@ undisturbed f p n s r s' d g ps w a t s'' e =
     }
 
 -- the equation with both claims, as the contract has them
-pub claimed : {f : List ℕ} {p n : ℕ} {s : List ℕ} {r : UnitAnswer} {s' : List ℕ} → Extracted f p n s r s'
+pub claimed : {f : List ℕ} {p n : ℕ} {s : List ℕ} {r : Res UnitAt} {s' : List ℕ} → Extracted f p n s r s'
     → Extracted f p n s r s' × Says f p n s s' r × Undisturbed f p n s r s'
 claimed {f} {p} {n} {s} {r} {s'} d = (d, claim f p n s r s' d, undisturbed f p n s r s' d)

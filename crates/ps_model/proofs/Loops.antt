@@ -5,20 +5,18 @@ use mathlib.Core.Path.{◌≡◌, refl, sym, ap, ◌∙◌, subst}
 use mathlib.Core.Bool.{Bool, true, false, cond}
 use mathlib.Core.Logic.{⊎_elim}
 use mathlib.Core.List.{List, [], ◌∷◌, ◌++◌, append_assoc, append-nil}
-use lib.ListN.{length, take, drop, length-take, length-append, length-drop, get_or-append, get_or-eq_default}
+use lib.ListN.{length, take, drop, length-take, length-append, length-drop, get_or-append}
 use lib.Seq.{slice, sets, slice_empty, length-slice, length-sets, length-take-le, get_or-append-add, get_or-drop, get_or-take, take_all, take_at, take-take, take-append-le, take-append-add}
 use lib.Dec.{leb, ltb}
-use borrow.Author.Tests.{le-leb, lt-leb, lt-ltb, le-ltb, leb-true, leb-false, ltb-true, ltb-false}
+use borrow.Author.Tests.{le-leb, lt-leb, lt-ltb, leb-true, leb-false, ltb-true, ltb-false}
 use Rattle.outcome.specs.Outcome.{Res, ok, refuse, and_then, cons_res}
 use Rattle.outcome.proofs.Laws.{ok-not-refuse, ok-injective, cons_res-ok, sets-append, part_slice, either}
 use Rattle.outcome.proofs.Lists.{list_step}
 use Rattle.grammar.specs.Bytes.{byte, word}
 use Rattle.grammar.specs.Packets.{Packet, kept_bytes, joined, packets, unit_of}
-use Rattle.grammar.proofs.PacketParts.{byte-slice}
 use Rattle.ps_model.specs.OnePacket.{packet_at}
 use Rattle.ps_model.specs.Packets.{Stand, stand, complete, stand_done, stand_packet, stand_next, packets_at}
 use Rattle.ps_model.specs.Answers.{joined_given}
-use Rattle.ps_model.specs.declared.JoinedAnswer.{JoinedAnswer}
 use Rattle.ps_model.proofs.Grammar.{packet-falls}
 use Rattle.ps_model.proofs.Read.{Told}
 
@@ -62,21 +60,12 @@ module _ (f : List ℕ) (a e have j old : ℕ) where
   pub byte-old : j < have → old ≡ cond (ltb j have) old (byte (slice a e f) (j - have))
   byte-old h = rw (lt-ltb j have h)
 
-  module _ (h : have ≤ j) (l : e ≤ length f) where
-    pub byte_past : e - a ≤ j - have → 0 ≡ cond (ltb j have) old (byte (slice a e f) (j - have))
-    byte_past k =
-        let z : length (slice a e f) ≤ j - have = rw (length-slice a e f l) k in
-        rw (le-ltb j have h) (sym (get_or-eq_default (slice a e f) 0 z))
-
-    pub byte-new : j - have < e - a → byte f (a + (j - have)) ≡ cond (ltb j have) old (byte (slice a e f) (j - have))
-    byte-new k = rw (le-ltb j have h) (sym (byte-slice f a e (j - have) (omega arith)))
-
 -- ---- Measuring
 
 -- the answer where k is kept and the packets r follow
-abbrev answer_after : List ℕ → Res (List Packet) → JoinedAnswer
-answer_after k (ok ps) = JoinedAnswer.Holds (length (take (word (k ++ joined ps) 0) (k ++ joined ps)))
-answer_after k (refuse n) = JoinedAnswer.Refused n
+abbrev answer_after : List ℕ → Res (List Packet) → Res ℕ
+answer_after k (ok ps) = ok (length (take (word (k ++ joined ps) 0) (k ++ joined ps)))
+answer_after k (refuse n) = refuse n
 
 answer_cons : (k : List ℕ) (p : Packet) (r : Res (List Packet))
     → answer_after k (cons_res p r) ≡ answer_after (k ++ kept_bytes p.kept) r
@@ -85,7 +74,7 @@ answer_cons k p (ok ps) = rw (append_assoc k (kept_bytes p.kept) (joined ps))
 answer_cons k p (refuse n) = refl
 
 -- where measuring stands: what is kept, its length and its first two bytes, and the answer x from there on
-pub record Measuring (id : ℕ → Bool) (f : List ℕ) (x : JoinedAnswer) (at have first second : ℕ) : Type 0 where
+pub record Measuring (id : ℕ → Bool) (f : List ℕ) (x : Res ℕ) (at have first second : ℕ) : Type 0 where
   pub kept : List ℕ
   pub count : length kept ≡ have
   pub first_is : first ≡ byte kept 0
@@ -104,8 +93,8 @@ measuring-starts id f from =
     go (ok ps) = refl
     go (refuse n) = refl
 
-module _ (id : ℕ → Bool) (f : List ℕ) (x : JoinedAnswer) (at have first second : ℕ) (i : Measuring id f x at have first second) where
-  pub measuring_refused : (n : ℕ) → packet_at id f at ≡ refuse n → JoinedAnswer.Refused n ≡ x
+module _ (id : ℕ → Bool) (f : List ℕ) (x : Res ℕ) (at have first second : ℕ) (i : Measuring id f x at have first second) where
+  pub measuring_refused : (n : ℕ) → packet_at id f at ≡ refuse n → refuse n ≡ x
   measuring_refused n e = sym (i.same ∙ ap (answer_after i.kept) (packets-refused id f at i.kept i.short n e))
 
   next : (a e : ℕ) → Told id f at a e
@@ -147,7 +136,7 @@ module _ (id : ℕ → Bool) (f : List ℕ) (x : JoinedAnswer) (at have first se
     unfolding word
     now-word = rw (now-first, now-second)
 
-    pub measuring_done : 2 ≤ have + (e - a) → (t : ℕ) → t ≡ b * 256 + c → t ≤ have + (e - a) → JoinedAnswer.Holds t ≡ x
+    pub measuring_done : 2 ≤ have + (e - a) → (t : ℕ) → t ≡ b * 256 + c → t ≤ have + (e - a) → ok t ≡ x
     unfolding joined
     measuring_done k t w l =
         let s : List ℕ = i.kept ++ slice a e f in
@@ -159,8 +148,8 @@ module _ (id : ℕ → Bool) (f : List ℕ) (x : JoinedAnswer) (at have first se
         sym (
         next a e h
         ∙ ap (answer_after s) (packets-done id f e s d)
-        ∙ ap (λ (y : List ℕ). JoinedAnswer.Holds (length (take (word y 0) y))) (append-nil s)
-        ∙ ap JoinedAnswer.Holds (length-take-le (word s 0) s fits ∙ sym g ∙ sym w)
+        ∙ ap (λ (y : List ℕ). ok (length (take (word y 0) y))) (append-nil s)
+        ∙ ap ok (length-take-le (word s 0) s fits ∙ sym g ∙ sym w)
         )
 
     goes : complete (i.kept ++ slice a e f) ≡ false → Measuring id f x e (have + (e - a)) b c

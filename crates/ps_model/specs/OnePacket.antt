@@ -1,7 +1,7 @@
 -- The body of a PES packet and the packet at a place, found: where there is none, refusal 13 (FORMAT 2). The test of ids is a parameter.
 -- Assumes nothing: these are definitions.
 use Rattle.std.specs.Prelude.{ℕ, zero, suc, ◌+◌, ◌/◌, ◌%◌, Bool, cond, ◌&&◌, List, eqb, leb, ltb, length}
-use Rattle.std.proofs.Math.Option.{Option, some, none}
+use Rattle.std.specs.Prelude.{Option, Some as some, None as none}
 use Rattle.std.proofs.Math.Seq.{slice}
 use Rattle.outcome.specs.Outcome.{Res, ok, refuse, check, and_then, map_res, no_unit}
 use Rattle.grammar.specs.Bytes.{byte}

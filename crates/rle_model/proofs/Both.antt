@@ -17,7 +17,6 @@ use Rattle.rle_model.specs.Field.{rows_from, paint_field}
 use Rattle.rle_model.specs.Fields.{weave, lower_at, fields_at, FieldsDecoded, both_answer, both_paint, blank_rows, BothFit, BothDecoded}
 use Rattle.rle_model.specs.Answers.{nothing, plus, counted, AtMost, row_counts, field_counts, field_answer, plus_field, measured, part_rows, Counted}
 use Rattle.rle_model.specs.declared.Counts.{Counts}
-use Rattle.rle_model.specs.declared.FieldAnswer.{FieldAnswer}
 use Rattle.rle_model.proofs.Grammar.{paints-pos, field-iff}
 use Rattle.rle_model.proofs.Loops.{plus-nothing, at-most_le, at-most-plus, at_most_one, fielded, unfielded, width_fits}
 use Rattle.rle_model.proofs.Refusals.{field-refuses}
@@ -42,10 +41,10 @@ rows-most u e w p (r ∷ rs) h =
     (at-most-plus w (length rs * w) (row_counts w r) (field_counts w rs) (row-most u e w p r h.0)
     (rows-most u e w (align (after_codes p r)) rs h.1))
 
-pub field-most : (u : List ℕ) (e w n p : ℕ) (b : Counts) → FieldAnswer.Rows b ≡ field_answer w (field_at u e w n p) → AtMost (n * w) b
+pub field-most : (u : List ℕ) (e w n p : ℕ) (b : Counts) → ok b ≡ field_answer w (field_at u e w n p) → AtMost (n * w) b
 field-most u e w n p b q = go (field_at u e w n p) refl q
   where
-    go : (o : Res (List (List Code))) → field_at u e w n p ≡ o → FieldAnswer.Rows b ≡ field_answer w o → AtMost (n * w) b
+    go : (o : Res (List (List Code))) → field_at u e w n p ≡ o → ok b ≡ field_answer w o → AtMost (n * w) b
     go (refuse k) h q' = let z : ◌≡◌ {A = ℕ} 0 1 = cc in absurd (omega arith)
     go (ok rs) h q' =
         let z : b ≡ field_counts w rs = cc in
@@ -75,24 +74,24 @@ blank-counts w (suc n) = rw (blank-counts w n)
 
 -- ---- One field, and then the other
 
-pub more_rows : (a b r : Counts) (m : FieldAnswer) → FieldAnswer.Rows b ≡ m → r ≡ plus a b → FieldAnswer.Rows r ≡ plus_field a m
-more_rows a b r m q p = ap FieldAnswer.Rows p ∙ ap (plus_field a) q
+pub more_rows : (a b r : Counts) (m : Res Counts) → ok b ≡ m → r ≡ plus a b → ok r ≡ plus_field a m
+more_rows a b r m q p = ap ok p ∙ ap (plus_field a) q
 
-pub more_refused : (a : Counts) (k : ℕ) (m : FieldAnswer) → FieldAnswer.Refused k ≡ m → FieldAnswer.Refused k ≡ plus_field a m
+pub more_refused : (a : Counts) (k : ℕ) (m : Res Counts) → refuse k ≡ m → refuse k ≡ plus_field a m
 more_refused a k m q = ap (plus_field a) q
 
 module _ (w : ℕ) (x y : Res (List (List Code))) where
-  both-rows : (a : Counts) (r : FieldAnswer) → FieldAnswer.Rows a ≡ field_answer w x → r ≡ plus_field a (field_answer w y) → r ≡ both_answer w x y
+  both-rows : (a : Counts) (r : Res Counts) → ok a ≡ field_answer w x → r ≡ plus_field a (field_answer w y) → r ≡ both_answer w x y
   both-rows a r q p = go x q
     where
-      go : (o : Res (List (List Code))) → FieldAnswer.Rows a ≡ field_answer w o → r ≡ both_answer w o y
+      go : (o : Res (List (List Code))) → ok a ≡ field_answer w o → r ≡ both_answer w o y
       go (refuse k) q' = let z : ◌≡◌ {A = ℕ} 0 1 = cc in absurd (omega arith)
       go (ok xs) q' = let z : a ≡ field_counts w xs = cc in p ∙ ap (λ (b : Counts). plus_field b (field_answer w y)) z
 
-  both_refused : (k : ℕ) → FieldAnswer.Refused k ≡ field_answer w x → FieldAnswer.Refused k ≡ both_answer w x y
+  both_refused : (k : ℕ) → refuse k ≡ field_answer w x → refuse k ≡ both_answer w x y
   both_refused k q = go x q
     where
-      go : (o : Res (List (List Code))) → FieldAnswer.Refused k ≡ field_answer w o → FieldAnswer.Refused k ≡ both_answer w o y
+      go : (o : Res (List (List Code))) → refuse k ≡ field_answer w o → refuse k ≡ both_answer w o y
       go (refuse m) q' = q'
       go (ok xs) q' = let z : ◌≡◌ {A = ℕ} 0 1 = cc in absurd (omega arith)
 
@@ -105,58 +104,58 @@ module _ (w : ℕ) (x y : Res (List (List Code))) where
       go (ok xs) (ok ys) i j p q = q ∙ ap (paint_field w w ys) p
 
 module _ (s t : List ℕ) (w n m : ℕ) where
-  pub measured-rows : (a : Counts) (r : FieldAnswer) → Counted s w n a → r ≡ plus_field a (measured t w m) → r ≡ both_answer w (part_rows s w n) (part_rows t w m)
+  pub measured-rows : (a : Counts) (r : Res Counts) → Counted s w n a → r ≡ plus_field a (measured t w m) → r ≡ both_answer w (part_rows s w n) (part_rows t w m)
   measured-rows = both-rows w (part_rows s w n) (part_rows t w m)
 
-  pub measured-refused : (k : ℕ) → FieldAnswer.Refused k ≡ measured s w n → FieldAnswer.Refused k ≡ both_answer w (part_rows s w n) (part_rows t w m)
+  pub measured-refused : (k : ℕ) → refuse k ≡ measured s w n → refuse k ≡ both_answer w (part_rows s w n) (part_rows t w m)
   measured-refused = both_refused w (part_rows s w n) (part_rows t w m)
 
 -- a refusal of the first: nothing was painted
-pub upper-refused : (s : List ℕ) (w n k : ℕ) (y : Res (List (List Code))) (px px' : List ℕ) → FieldAnswer.Refused k ≡ measured s w n
-    → px' ≡ paint_field w 0 (listed (part_rows s w n)) px → BothDecoded w (part_rows s w n) y px (FieldAnswer.Refused k) px'
+pub upper-refused : (s : List ℕ) (w n k : ℕ) (y : Res (List (List Code))) (px px' : List ℕ) → refuse k ≡ measured s w n
+    → px' ≡ paint_field w 0 (listed (part_rows s w n)) px → BothDecoded w (part_rows s w n) y px (refuse k) px'
 unfolding paint_field
 upper-refused s w n k y px px' a p =
     let e = unfielded s (length s) w n 0 k a in
     record { answer = both_refused w (part_rows s w n) y k a; pixels = rw e (rw e at p) }
 
 -- a refusal of the second: the first is refused with the same number, or accepted and not painted
-pub lower_refused : (s t : List ℕ) (w n m k : ℕ) (px : List ℕ) → FieldAnswer.Refused k ≡ measured t w m
-    → BothDecoded w (part_rows s w n) (part_rows t w m) px (FieldAnswer.Refused k) px
+pub lower_refused : (s t : List ℕ) (w n m k : ℕ) (px : List ℕ) → refuse k ≡ measured t w m
+    → BothDecoded w (part_rows s w n) (part_rows t w m) px (refuse k) px
 lower_refused s t w n m k px a =
     let e = unfielded t (length t) w m 0 k a in
     go (part_rows s w n) refl (part_rows t w m) e (field-refuses t (length t) w m 0 k e)
   where
     go : (o : Res (List (List Code))) → part_rows s w n ≡ o → (o' : Res (List (List Code))) → o' ≡ refuse k → k ≡ field_ran_out
-        → BothDecoded w o o' px (FieldAnswer.Refused k) px
+        → BothDecoded w o o' px (refuse k) px
     go (refuse j) q o' e f =
         let z : k ≡ j = f ∙ sym (field-refuses s (length s) w n 0 j q) in
-        record { answer = ap FieldAnswer.Refused z; pixels = refl }
+        record { answer = ap refuse z; pixels = refl }
     go (ok xs) q o' e f = rw e (record { answer = refl; pixels = refl })
 
 -- the first painted, and rows that stay 0
 pub upper-painted : (s : List ℕ) (w n m : ℕ) (a : Counts) (px px₁ px₂ : List ℕ) → Counted s w n a
     → px₁ ≡ paint_field w 0 (listed (part_rows s w n)) px → px₂ ≡ paint_field w w (blank_rows m) px₁
-    → BothDecoded w (part_rows s w n) (ok (blank_rows m)) px (FieldAnswer.Rows a) px₂
+    → BothDecoded w (part_rows s w n) (ok (blank_rows m)) px (ok a) px₂
 upper-painted s w n m a px px₁ px₂ c p q =
     record {
-      answer = both-rows w (part_rows s w n) (ok (blank_rows m)) a (FieldAnswer.Rows a) c (ap FieldAnswer.Rows (sym (plus-nothing a) ∙ ap (plus a) (sym (blank-counts w m))));
+      answer = both-rows w (part_rows s w n) (ok (blank_rows m)) a (ok a) c (ap ok (sym (plus-nothing a) ∙ ap (plus a) (sym (blank-counts w m))));
       pixels = both-painted w (part_rows s w n) (ok (blank_rows m)) (fielded s (length s) w n 0 a c) tt px px₁ px₂ p q;
     }
 
 -- the first painted, and the second
 pub lower-painted : (s t : List ℕ) (w n m : ℕ) (a b r : Counts) (px px₁ px₂ : List ℕ) → Counted s w n a → Counted t w m b → r ≡ plus a b
     → px₁ ≡ paint_field w 0 (listed (part_rows s w n)) px → px₂ ≡ paint_field w w (listed (part_rows t w m)) px₁
-    → BothDecoded w (part_rows s w n) (part_rows t w m) px (FieldAnswer.Rows r) px₂
+    → BothDecoded w (part_rows s w n) (part_rows t w m) px (ok r) px₂
 lower-painted s t w n m a b r px px₁ px₂ c d e p q =
     record {
-      answer = both-rows w (part_rows s w n) (part_rows t w m) a (FieldAnswer.Rows r) c (more_rows a b r (measured t w m) d e);
+      answer = both-rows w (part_rows s w n) (part_rows t w m) a (ok r) c (more_rows a b r (measured t w m) d e);
       pixels = both-painted w (part_rows s w n) (part_rows t w m) (fielded s (length s) w n 0 a c) (fielded t (length t) w m 0 b d) px px₁ px₂ p q;
     }
 
 -- the counts of a field alone are those of both, where the rows of the other stay 0
 alone-measured : (w : ℕ) (x : Res (List (List Code))) (n : ℕ) → field_answer w x ≡ both_answer w x (ok (blank_rows n))
 alone-measured w (refuse k) n = refl
-alone-measured w (ok xs) n = ap FieldAnswer.Rows (sym (plus-nothing (field_counts w xs)) ∙ ap (plus (field_counts w xs)) (sym (blank-counts w n)))
+alone-measured w (ok xs) n = ap ok (sym (plus-nothing (field_counts w xs)) ∙ ap (plus (field_counts w xs)) (sym (blank-counts w n)))
 
 -- ---- The unit's rows
 
@@ -170,7 +169,7 @@ woven x y = and_then x (λ a. and_then y (λ b. ok (weave a b)))
 woven-answer : (w : ℕ) (x y : Res (List (List Code))) → Paired x y → both_answer w x y ≡ field_answer w (woven x y)
 woven-answer w (refuse k) y h = refl
 woven-answer w (ok a) (refuse k) h = refl
-woven-answer w (ok a) (ok b) h = let f = h a b refl refl in ap FieldAnswer.Rows (weave-counts w a b f.0 f.1)
+woven-answer w (ok a) (ok b) h = let f = h a b refl refl in ap ok (weave-counts w a b f.0 f.1)
 
 woven-pixels : (w : ℕ) (x y : Res (List (List Code))) (px : List ℕ) → Paired x y → both_paint w x y px ≡ sets px 0 (index_map w (listed (woven x y)))
 unfolding index_map
@@ -254,10 +253,10 @@ module _ (u : List ℕ) (t e b f : ℕ) (te : e ≤ length u) (bf : f ≤ length
       lower-shown : part_rows s' w m ≡ lower_part u b f shown w (rows_from 1 h)
       lower-shown = rw (q, p', y)
 
-      pub shown-measured : (r : FieldAnswer) → r ≡ both_answer w (part_rows s w n) (part_rows s' w m) → r ≡ field_answer w (fields_at u t e b f shown w h)
+      pub shown-measured : (r : Res Counts) → r ≡ both_answer w (part_rows s w n) (part_rows s' w m) → r ≡ field_answer w (fields_at u t e b f shown w h)
       shown-measured r k = k ∙ fields-answer shown s (part_rows s' w m) n p lower-shown x
 
-      pub shown-decoded : (px px' : List ℕ) (r : FieldAnswer) → BothDecoded w (part_rows s w n) (part_rows s' w m) px r px' → FieldsDecoded u t e b f shown w h px r px'
+      pub shown-decoded : (px px' : List ℕ) (r : Res Counts) → BothDecoded w (part_rows s w n) (part_rows s' w m) px r px' → FieldsDecoded u t e b f shown w h px r px'
       shown-decoded px px' r k =
           record {
             answer = shown-measured r k.answer;
@@ -269,13 +268,13 @@ module _ (u : List ℕ) (t e b f : ℕ) (te : e ≤ length u) (bf : f ≤ length
       lower-blank : ok (blank_rows m) ≡ lower_part u b f shown w (rows_from 1 h)
       lower-blank = rw (q, y)
 
-      blank-answer : (r : FieldAnswer) → r ≡ both_answer w (part_rows s w n) (ok (blank_rows m)) → r ≡ field_answer w (fields_at u t e b f shown w h)
+      blank-answer : (r : Res Counts) → r ≡ both_answer w (part_rows s w n) (ok (blank_rows m)) → r ≡ field_answer w (fields_at u t e b f shown w h)
       blank-answer r k = k ∙ fields-answer shown s (ok (blank_rows m)) n p lower-blank x
 
-      pub blank-measured : (r : FieldAnswer) → r ≡ measured s w n → r ≡ field_answer w (fields_at u t e b f shown w h)
+      pub blank-measured : (r : Res Counts) → r ≡ measured s w n → r ≡ field_answer w (fields_at u t e b f shown w h)
       blank-measured r k = blank-answer r (k ∙ alone-measured w (part_rows s w n) m)
 
-      pub blank-decoded : (px px' : List ℕ) (r : FieldAnswer) → BothDecoded w (part_rows s w n) (ok (blank_rows m)) px r px' → FieldsDecoded u t e b f shown w h px r px'
+      pub blank-decoded : (px px' : List ℕ) (r : Res Counts) → BothDecoded w (part_rows s w n) (ok (blank_rows m)) px r px' → FieldsDecoded u t e b f shown w h px r px'
       blank-decoded px px' r k =
           record {
             answer = blank-answer r k.answer;
@@ -293,11 +292,11 @@ module _ (u : List ℕ) (t e b f : ℕ) (shown : Bool) (w h : ℕ) where
       (x.0, y.0, x.1, y.1, ok-injective y.2)
 
 -- a picture of no rows
-pub fields-none : (u : List ℕ) (t e b f : ℕ) (shown : Bool) (w h : ℕ) (px : List ℕ) → h ≡ 0 → FieldsDecoded u t e b f shown w h px (FieldAnswer.Rows nothing) px
+pub fields-none : (u : List ℕ) (t e b f : ℕ) (shown : Bool) (w h : ℕ) (px : List ℕ) → h ≡ 0 → FieldsDecoded u t e b f shown w h px (ok nothing) px
 unfolding fields_at lower_at field_at weave index_map field_counts rows_from
 fields-none u t e b f shown w h px q = rw q (go shown)
   where
-    go : (s : Bool) → FieldsDecoded u t e b f s w 0 px (FieldAnswer.Rows nothing) px
+    go : (s : Bool) → FieldsDecoded u t e b f s w 0 px (ok nothing) px
     go true = record { answer = refl; pixels = refl }
     go false = record { answer = refl; pixels = refl }
 

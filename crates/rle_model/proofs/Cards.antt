@@ -3,20 +3,18 @@ use Prim.Native.Nat.{ℕ, ◌-◌, ◌^◌}
 use mathlib.Core.Path.{◌≡◌, refl}
 use mathlib.Core.Bool.{true, false}
 use mathlib.Core.List.{[], ◌∷◌}
-use Rattle.outcome.specs.Outcome.{ok}
+use Rattle.outcome.specs.Outcome.{ok, refuse}
 use Rattle.outcome.specs.Lists.{list_from, list_fuel}
 use Rattle.grammar.specs.Bytes.{nibble, nibbles}
 use Rattle.grammar.specs.Rows.{code, paints, overshoots, after_codes, align}
 use Rattle.grammar.specs.Pixels.{row_pixels}
 use Rattle.rle_model.specs.Nibbles.{past_nibble, on_byte}
-use Rattle.rle_model.specs.CodeAnswers.{code_answer}
+use Rattle.rle_model.specs.CodeAnswers.{code_found, code_answer, code_end}
 use Rattle.rle_model.specs.Codes.{code_from, code_at, row_at, field_at}
 use Rattle.rle_model.specs.Field.{rows_from, paint_field}
 use Rattle.rle_model.specs.Kept.{kept_row}
 use Rattle.rle_model.specs.Fields.{weave, lower_at, fields_at, both_answer}
 use Rattle.rle_model.specs.Answers.{row_counts, field_counts}
-use Rattle.rle_model.specs.declared.CodeAnswer.TheVariants as CodeAnswer
-use Rattle.rle_model.specs.declared.FieldAnswer.TheVariants as FieldAnswer
 
 -- the count after a read of a field of one byte: the next inside it, and the same at its end
 pub past_counts : past_nibble (0 ∷ []) 1 ∷ past_nibble (0 ∷ []) 2 ∷ [] ≡ 2 ∷ 2 ∷ []
@@ -39,15 +37,19 @@ codes-counted = refl
 
 -- a code in each field counts 2
 pub both-counted :
-    both_answer 1 (ok ((code 0 1 5 ∷ []) ∷ [])) (ok ((code 2 1 5 ∷ []) ∷ [])) ≡ FieldAnswer.Rows (record { codes = 2; clipped = 0 })
+    both_answer 1 (ok ((code 0 1 5 ∷ []) ∷ [])) (ok ((code 2 1 5 ∷ []) ∷ [])) ≡ ok (record { codes = 2; clipped = 0 })
 unfolding field_counts row_counts paints overshoots
 both-counted = refl
 
 -- `9`, a run of two pixels: clipped with one left, not with two
 pub code-clipped : code_answer 1 (ok (code 0 1 9)) ∷ code_answer 2 (ok (code 0 1 9)) ∷ []
-    ≡ CodeAnswer.Got 1 9 true (record { pos = 1 }) ∷ CodeAnswer.Got 1 9 false (record { pos = 1 }) ∷ []
+    ≡ ok (code_found 1 9 true) ∷ ok (code_found 1 9 false) ∷ []
 unfolding overshoots paints
 code-clipped = refl
+
+-- behind a code of one nibble, and where a field of one byte ran out
+pub places_after : code_end (0 ∷ []) 0 (ok (code 0 1 5)) ∷ code_end (0 ∷ []) 0 (refuse 26) ∷ code_end (0 ∷ []) 3 (refuse 26) ∷ [] ≡ 1 ∷ 2 ∷ 3 ∷ []
+places_after = refl
 
 -- `59` in rows of two pixels: the second code has one left
 pub second-clipped : field_counts 2 ((code 0 1 5 ∷ code 1 1 9 ∷ []) ∷ []) ≡ record { codes = 2; clipped = 1 }
@@ -56,7 +58,7 @@ second-clipped = refl
 
 -- a clipped code in each field counts 2
 pub both_clipped :
-    both_answer 1 (ok ((code 0 1 9 ∷ []) ∷ [])) (ok ((code 2 1 9 ∷ []) ∷ [])) ≡ FieldAnswer.Rows (record { codes = 2; clipped = 2 })
+    both_answer 1 (ok ((code 0 1 9 ∷ []) ∷ [])) (ok ((code 2 1 9 ∷ []) ∷ [])) ≡ ok (record { codes = 2; clipped = 2 })
 unfolding field_counts row_counts paints overshoots
 both_clipped = refl
 

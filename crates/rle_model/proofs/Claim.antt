@@ -17,7 +17,7 @@ use Rattle.rle_model.specs.Field.{rows_from, paint_field, decoded}
 use Rattle.rle_model.specs.Answers.{plus, row_counts, field_counts, field_answer, Decoded, listed_counts}
 use Rattle.rle_model.specs.Fields.{weave}
 use Rattle.rle_model.specs.Claim.{Says}
-use Rattle.rle_model.specs.declared.FieldAnswer.{FieldAnswer}
+use Rattle.rle_model.specs.declared.Counts.{Counts}
 use Rattle.rle_model.proofs.Grammar.{field-iff}
 use Rattle.rle_model.proofs.Loops.{counts_eq}
 use Rattle.rle_model.proofs.Weave.{weave-counts}
@@ -56,7 +56,7 @@ listed-weave w a b h l =
 
 -- ---- The claim
 
-pub claim : (s : List ℕ) (w h start : ℕ) (px : List ℕ) (r : FieldAnswer) (px' : List ℕ) → Decoded s w h start px r px' → Says s w h start px px' r
+pub claim : (s : List ℕ) (w h start : ℕ) (px : List ℕ) (r : Res Counts) (px' : List ℕ) → Decoded s w h start px r px' → Says s w h start px px' r
 unfolding decoded paint_field
 claim s w h start px r px' d = ⊎_elim (λ l. go l (field_at s (length s) w (rows_from start h) 0) refl) short (le_or_lt (w * h) (length px))
   where
@@ -83,5 +83,5 @@ claim s w h start px r px' d = ⊎_elim (λ l. go l (field_at s (length s) w (ro
         ))
 
 -- the equation with the claim, as the contract has both
-pub claimed : {s : List ℕ} {w h start : ℕ} {px : List ℕ} {r : FieldAnswer} {px' : List ℕ} → Decoded s w h start px r px' → Decoded s w h start px r px' × Says s w h start px px' r
+pub claimed : {s : List ℕ} {w h start : ℕ} {px : List ℕ} {r : Res Counts} {px' : List ℕ} → Decoded s w h start px r px' → Decoded s w h start px r px' × Says s w h start px px' r
 claimed {s} {w} {h} {start} {px} {r} {px'} d = (d, claim s w h start px r px' d)

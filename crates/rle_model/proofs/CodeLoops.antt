@@ -10,12 +10,12 @@ use mathlib.Core.List.{List}
 use lib.Dec.{ltb}
 use borrow.Author.Tests.{le-leb, lt-leb, lt-ltb, le-ltb, eq-eqb, ne_eqb}
 use Rattle.outcome.specs.Outcome.{Res, ok, refuse, field_ran_out}
+use Rattle.outcome.proofs.Laws.{ok-injective}
 use Rattle.grammar.specs.Bytes.{nibble, nibbles}
 use Rattle.grammar.specs.Rows.{Code, code, IsCode, overshoots}
 use Rattle.rle_model.specs.Codes.{made, code_from, code_at}
-use Rattle.rle_model.specs.CodeAnswers.{code_answer}
-use Rattle.rle_model.specs.declared.Cursor.{Cursor}
-use Rattle.rle_model.specs.declared.CodeAnswer.TheVariants as CodeAnswer
+use Rattle.rle_model.specs.CodeAnswers.{code_found, code_answer, code_end}
+use Rattle.rle_model.specs.declared.CodeRead.{CodeRead}
 use Rattle.rle_model.proofs.Grammar.{code-sound}
 
 -- ---- Nibbles of a code, at every length
@@ -78,41 +78,40 @@ last-clips left p k v q h = let l : v < 256 = rw q at h in rw (eq-eqb k 4 q, lt-
 -- ---- What an answer says
 
 -- of a code
-pub record Coded (u : List ℕ) (e p k v : ℕ) (x : Cursor) : Type 0 where
+pub record Coded (u : List ℕ) (e p k v : ℕ) (x : ℕ) : Type 0 where
   pub here : code_at u e p ≡ ok (code p k v)
-  pub goes : x.pos ≡ p + k
+  pub goes : x ≡ p + k
   pub is : IsCode u e (code p k v)
 
-pub coded : (u : List ℕ) (e left p k v : ℕ) (b : Bool) (x : Cursor)
-    → CodeAnswer.Got k v b x ≡ code_answer left (code_at u e p) → Coded u e p k v x
-coded u e left p k v b x q = go (code_at u e p) refl q
+pub coded : (u : List ℕ) (e left p k v : ℕ) (b : Bool) (x : ℕ)
+    → ok (code_found k v b) ≡ code_answer left (code_at u e p) → x ≡ code_end u p (code_at u e p) → Coded u e p k v x
+coded u e left p k v b x q r = go (code_at u e p) refl q r
   where
-    go : (o : Res Code) → code_at u e p ≡ o → CodeAnswer.Got k v b x ≡ code_answer left o → Coded u e p k v x
-    go (refuse n) h q' = let z : ◌≡◌ {A = ℕ} 0 1 = cc in absurd (omega arith)
-    go (ok c) h q' =
+    go : (o : Res Code) → code_at u e p ≡ o → ok (code_found k v b) ≡ code_answer left o → x ≡ code_end u p o → Coded u e p k v x
+    go (refuse n) h q' r' = let z : ◌≡◌ {A = ℕ} 0 1 = cc in absurd (omega arith)
+    go (ok c) h q' r' =
         let f = code-sound u e p c h in
-        let ek : c.size ≡ k = cc in
-        let ev : c.value ≡ v = cc in
-        let ex : record { pos = c.place + c.size } ≡ x = cc in
+        let z : code_found k v b ≡ code_found c.size c.value (overshoots left c) = ok-injective q' in
+        let ek : c.size ≡ k = sym (ap (λ (r : CodeRead). r.size) z) in
+        let ev : c.value ≡ v = sym (ap (λ (r : CodeRead). r.value) z) in
         let same : c ≡ code p k v = λ i. record { place = f.0 i; size = ek i; value = ev i } in
         record {
           here = h ∙ ap ok same;
-          goes = ap (λ (y : Cursor). y.pos) (sym ex) ∙ (λ i. f.0 i + ek i);
+          goes = r' ∙ (λ i. f.0 i + ek i);
           is = subst (IsCode u e) same f.1;
         }
 
 -- and whether it is clipped
-pub coded-clipped : (u : List ℕ) (e left p k v : ℕ) (b : Bool) (x : Cursor)
-    → CodeAnswer.Got k v b x ≡ code_answer left (code_at u e p) → b ≡ overshoots left (code p k v)
-coded-clipped u e left p k v b x q =
-    let h = (coded u e left p k v b x q).here in
-    let z : overshoots left (code p k v) ≡ b = cc in
-    sym z
+pub coded-clipped : (u : List ℕ) (e left p k v : ℕ) (b : Bool)
+    → ok (code_found k v b) ≡ code_answer left (code_at u e p) → b ≡ overshoots left (code p k v)
+coded-clipped u e left p k v b q =
+    let h = (coded u e left p k v b _ q refl).here in
+    ap (λ (r : CodeRead). r.clipped) (ok-injective (q ∙ ap (code_answer left) h))
 
-pub uncoded : (u : List ℕ) (e left p n : ℕ) → CodeAnswer.Refused n ≡ code_answer left (code_at u e p)
+pub uncoded : (u : List ℕ) (e left p n : ℕ) → refuse n ≡ code_answer left (code_at u e p)
     → code_at u e p ≡ refuse n
 uncoded u e left p n q = go (code_at u e p) refl q
   where
-    go : (o : Res Code) → code_at u e p ≡ o → CodeAnswer.Refused n ≡ code_answer left o → code_at u e p ≡ refuse n
+    go : (o : Res Code) → code_at u e p ≡ o → refuse n ≡ code_answer left o → code_at u e p ≡ refuse n
     go (refuse m) h q' = let z : m ≡ n = cc in h ∙ ap refuse z
     go (ok c) h q' = let z : ◌≡◌ {A = ℕ} 0 1 = cc in absurd (omega arith)

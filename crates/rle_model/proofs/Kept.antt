@@ -6,7 +6,7 @@ use native.Mathlib.Omega.{arith}
 use mathlib.Core.Path.{◌≡◌, refl, sym, ap, ◌∙◌, subst}
 use mathlib.Core.List.{List, [], ◌∷◌, ◌++◌, append-nil}
 use lib.ListN.{length, set, replicate, take, drop, get_or, length-append, length-replicate, drop_of_length-le}
-use lib.Seq.{sets, sets-eq, length-sets, length-take-le, take_at, drop-cons, get_or-take}
+use lib.Seq.{sets, sets-eq, length-sets, take_at, drop-cons}
 use Rattle.outcome.specs.Outcome.{Res, ok, refuse, listed, listed_by, IsOk}
 use Rattle.grammar.specs.Rows.{Code, code, colour, paints, RowCodes, after_codes, align, FieldRows}
 use Rattle.grammar.specs.Pixels.{row_pixels}
@@ -15,9 +15,7 @@ use Rattle.rle_model.specs.Field.{paint_field}
 use Rattle.rle_model.specs.Kept.{widest, kept_run, kept_row, kept_all, left_after, place_after, paint_kept, KeptFits}
 use Rattle.rle_model.specs.Answers.{row_counts, field_counts, field_answer}
 use Rattle.rle_model.specs.Answers.{part_rows, Ready, Counted}
-use Rattle.rle_model.specs.declared.Cursor.{Cursor}
 use Rattle.rle_model.specs.declared.Counts.{Counts}
-use Rattle.rle_model.specs.declared.FieldAnswer.TheVariants as FieldAnswer
 use Rattle.grammar.proofs.Lengths.{paints-le}
 use Rattle.rle_model.proofs.Grammar.{row-none, field-iff, read_step, read-row, read-field}
 use Rattle.outcome.proofs.Laws.{sets-append}
@@ -27,9 +25,9 @@ use Rattle.rle_model.proofs.Loops.{Rowed, blank, fielded}
 -- ---- Keeping
 
 -- a turn of keeping a row's codes
-pub keep-more : (u : List ℕ) (e left p : ℕ) (h : 0 < left) (k v m : ℕ) (x : Cursor) → Coded u e p k v x → m ≡ paints left (code p k v)
+pub keep-more : (u : List ℕ) (e left p : ℕ) (h : 0 < left) (k v m : ℕ) (x : ℕ) → Coded u e p k v x → m ≡ paints left (code p k v)
     → (ks ks' : List ℕ) (i : ℕ) → ks' ≡ set ks i (kept_run m (v % 4))
-    → sets ks' (i + 1) (kept_row (left - m) (row_read u e (left - m) x.pos)) ≡ sets ks i (kept_row left (row_read u e left p))
+    → sets ks' (i + 1) (kept_row (left - m) (row_read u e (left - m) x)) ≡ sets ks i (kept_row left (row_read u e left p))
 unfolding kept_row
 keep-more u e left p h k v m x g q ks ks' i f =
     rw (read_step u e left p h, g.here, sym q, f, add-one, g.goes)
@@ -63,8 +61,8 @@ rows-turn u e w n p h = let z : n ≡ suc (n - 1) = omega arith in go n z
     go m q = rw q
 
 -- a turn of keeping a field's rows
-pub keep-rows : (u : List ℕ) (e w n p : ℕ) (h : 0 < n) (b : Counts) (x : Cursor) → Rowed u e w p b x
-    → (ks ks' : List ℕ) (i j at : ℕ) → ks' ≡ sets ks i (kept_row w (row_read u e w p)) → j ≡ i + b.codes → at ≡ align x.pos
+pub keep-rows : (u : List ℕ) (e w n p : ℕ) (h : 0 < n) (b : Counts) (x : ℕ) → Rowed u e w p b x
+    → (ks ks' : List ℕ) (i j at : ℕ) → ks' ≡ sets ks i (kept_row w (row_read u e w p)) → j ≡ i + b.codes → at ≡ align x
     → sets ks' j (kept_all w (field_read u e w (n - 1) at)) ≡ sets ks i (kept_all w (field_read u e w n p))
 unfolding kept_all
 keep-rows u e w n p h b x g ks ks' i j at f q a =
@@ -188,36 +186,31 @@ pub place_on : (w l t : ℕ) → (l ≡ 0 → ⊥) → t ≡ place_after w l t
 place_on w zero t f = absurd (f refl)
 place_on w (suc l) t f = refl
 
-module _ (ks : List ℕ) (count k : ℕ) (l : k < count) (b : count ≤ length ks) where
-  pub drop-kept : drop k (take count ks) ≡ get_or ks k 0 ∷ drop (k + 1) (take count ks)
-  drop-kept =
-      let m : k < length (take count ks) = rw (length-take-le count ks b) l in
-      rw (add-one, drop-cons (take count ks) k 0 m, get_or-take count ks k 0 l)
+module _ (ks : List ℕ) (k : ℕ) (l : k < length ks) where
+  pub drop-kept : drop k ks ≡ get_or ks k 0 ∷ drop (k + 1) ks
+  drop-kept = rw (add-one, drop-cons ks k 0 l)
 
-module _ (n w left to : ℕ) (ks : List ℕ) (count k : ℕ) (l : k < count) (b : count ≤ length ks) where
-  pub fits-now : KeptFits n w left to (drop k (take count ks)) → (get_or ks k 0 / 4 ≤ left) × (to + get_or ks k 0 / 4 ≤ n)
+module _ (n w left to : ℕ) (ks : List ℕ) (k : ℕ) (l : k < length ks) where
+  pub fits-now : KeptFits n w left to (drop k ks) → (get_or ks k 0 / 4 ≤ left) × (to + get_or ks k 0 / 4 ≤ n)
   unfolding KeptFits
-  fits-now f = let g = rw (drop-kept ks count k l b) at f in (g.0, g.1)
+  fits-now f = let g = rw (drop-kept ks k l) at f in (g.0, g.1)
 
-  pub fits_more : KeptFits n w left to (drop k (take count ks))
+  pub fits_more : KeptFits n w left to (drop k ks)
       → (m left' to' : ℕ) → m ≡ get_or ks k 0 / 4 → left' ≡ left_after w (left - m) → to' ≡ place_after w (left - m) (to + m)
-      → KeptFits n w left' to' (drop (k + 1) (take count ks))
+      → KeptFits n w left' to' (drop (k + 1) ks)
   unfolding KeptFits
-  fits_more f m left' to' pm pl pt = rw (pl, pt, pm) (rw (drop-kept ks count k l b) at f).2
+  fits_more f m left' to' pm pl pt = rw (pl, pt, pm) (rw (drop-kept ks k l) at f).2
 
   pub paints-more : (px px' : List ℕ) (m left' to' : ℕ) → m ≡ get_or ks k 0 / 4 → left' ≡ left_after w (left - m)
       → to' ≡ place_after w (left - m) (to + m) → px' ≡ sets px to (replicate m (get_or ks k 0 % 4))
-      → paint_kept w left' to' (drop (k + 1) (take count ks)) px' ≡ paint_kept w left to (drop k (take count ks)) px
+      → paint_kept w left' to' (drop (k + 1) ks) px' ≡ paint_kept w left to (drop k ks) px
   paints-more px px' m left' to' pm pl pt pp =
-      rw (drop-kept ks count k l b, pl, pt, pp)
-      (sym (kept_step w left to (get_or ks k 0) m (get_or ks k 0 % 4) (sym pm) refl (drop (k + 1) (take count ks)) px))
+      rw (drop-kept ks k l, pl, pt, pp)
+      (sym (kept_step w left to (get_or ks k 0) m (get_or ks k 0 % 4) (sym pm) refl (drop (k + 1) ks) px))
 
-pub paints-end : (w left to : ℕ) (ks : List ℕ) (count k : ℕ) (px : List ℕ) → count ≤ k → count ≤ length ks → px ≡ paint_kept w left to (drop k (take count ks)) px
+pub paints-end : (w left to : ℕ) (ks : List ℕ) (k : ℕ) (px : List ℕ) → length ks ≤ k → px ≡ paint_kept w left to (drop k ks) px
 unfolding paint_kept
-paints-end w left to ks count k px l b =
-    let m : length (take count ks) ≤ k = omega (arith, length-take-le count ks b) in
-    let z : drop k (take count ks) ≡ [] = drop_of_length-le (take count ks) m in
-    rw z
+paints-end w left to ks k px l = let z : drop k ks ≡ [] = drop_of_length-le ks l in rw z
 
 -- ---- The whole of a field from what was kept
 
@@ -228,7 +221,7 @@ ready s w n ks ks' b a q =
     let i = fielded s (length s) w n 0 b a in
     record { there = i; kept = λ f. go (part_rows s w n) refl i a f }
   where
-    go : (r : Res (List (List Code))) → part_rows s w n ≡ r → IsOk r → FieldAnswer.Rows b ≡ field_answer w r → b.codes ≤ length ks'
+    go : (r : Res (List (List Code))) → part_rows s w n ≡ r → IsOk r → ok b ≡ field_answer w r → b.codes ≤ length ks'
         → take b.codes ks' ≡ kept_all w (listed r)
     go (refuse k) h i a f = absurd i
     go (ok rs) h i a f =

@@ -6,11 +6,11 @@ use mathlib.Core.Path.{◌≡◌, refl, sym, ap, ◌∙◌, subst}
 use mathlib.Core.Bool.{Bool, true, false, cond}
 use mathlib.Core.Logic.{⊎_elim, ◌↔◌}
 use mathlib.Core.List.{List, [], ◌∷◌}
-use lib.ListN.{length, set, replicate, length-replicate}
+use lib.ListN.{length, replicate, length-replicate}
 use lib.Seq.{sets}
 use lib.Dec.{leb}
 use borrow.Author.Tests.{le-leb, lt-leb}
-use Rattle.outcome.proofs.Laws.{le_or_lt, sets-append}
+use Rattle.outcome.proofs.Laws.{ok-injective, le_or_lt, sets-append}
 use Rattle.outcome.specs.Outcome.{Res, ok, refuse, and_then, cons_res, listed, IsOk, short_pixels}
 use Rattle.grammar.specs.Rows.{Code, code, paints, overshoots, RowCodes, after_codes, align}
 use Rattle.grammar.specs.Pixels.{row_pixels}
@@ -20,10 +20,7 @@ use Rattle.rle_model.specs.Codes.{code_at, row_at, field_at}
 use Rattle.rle_model.specs.Field.{rows_from, paint_field, decoded}
 use Rattle.rle_model.specs.Kept.{kept_row, kept_all}
 use Rattle.rle_model.specs.Answers.{nothing, plus, counted, last_counts, AtMost, row_counts, field_counts, row_answer, field_answer, plus_field, RowsDecoded, Decoded}
-use Rattle.rle_model.specs.declared.Cursor.{Cursor}
 use Rattle.rle_model.specs.declared.Counts.{Counts}
-use Rattle.rle_model.specs.declared.RowAnswer.{RowAnswer}
-use Rattle.rle_model.specs.declared.FieldAnswer.{FieldAnswer}
 use Rattle.rle_model.proofs.Grammar.{row-iff, row_step, row-none}
 use Rattle.grammar.proofs.Clipped.{clipped-paints}
 use Rattle.rle_model.proofs.CodeLoops.{Coded}
@@ -66,26 +63,16 @@ at-most-counted p k left c a h l =
     at-most_le (p + 1) (p + k) (plus a (counted left c)) (omega arith)
     (at-most-plus p 1 a (counted left c) l (at_most_one left c))
 
--- ---- Stores
-
--- a turn of a run
-pub run_more : (px : List ℕ) (o i n v : ℕ) → i < n
-    → sets (set px (o + i) v) (o + (i + 1)) (replicate (n - (i + 1)) v) ≡ sets px (o + i) (replicate (n - i) v)
-run_more px o i n v h =
-    let z : n - i ≡ suc (n - (i + 1)) = omega arith in
-    let y : o + (i + 1) ≡ suc (o + i) = omega arith in
-    rw (z, y)
-
 -- ---- Rows
 
 -- the counts a, and then the row's
-abbrev pub plus_row : Counts → RowAnswer → RowAnswer
-plus_row a (RowAnswer.Row b x) = RowAnswer.Row (plus a b) x
-plus_row a (RowAnswer.Refused n) = RowAnswer.Refused n
+abbrev pub plus_row : Counts → Res Counts → Res Counts
+plus_row a (ok b) = ok (plus a b)
+plus_row a (refuse n) = refuse n
 
-pub row-whole : (r : RowAnswer) → plus_row nothing r ≡ r
-row-whole (RowAnswer.Row b x) = ap (λ (a : Counts). RowAnswer.Row a x) (nothing-plus b)
-row-whole (RowAnswer.Refused n) = refl
+pub row-whole : (r : Res Counts) → plus_row nothing r ≡ r
+row-whole (ok b) = ap ok (nothing-plus b)
+row-whole (refuse n) = refl
 
 -- a code after n of which the last is clipped only where nothing is left
 pub last_more : (n : ℕ) (t f : Bool) (left : ℕ) (c : Code) → (t ≡ true → left ≡ 0) → 0 < left → f ≡ overshoots left c
@@ -100,37 +87,37 @@ pub last-over : (left p k v m : ℕ) (f : Bool) → f ≡ overshoots left (code 
 last-over left p k v m f q e t = omega (arith, clipped-paints left (code p k v) (sym q ∙ t))
 
 module _ (u : List ℕ) (e left p : ℕ) (h : 0 < left) where
-  pub row-turn : (k v m : ℕ) (x : Cursor) → Coded u e p k v x → m ≡ paints left (code p k v)
-      → row_at u e left p ≡ cons_res (code p k v) (row_at u e (left - m) x.pos)
+  pub row-turn : (k v m : ℕ) (x : ℕ) → Coded u e p k v x → m ≡ paints left (code p k v)
+      → row_at u e left p ≡ cons_res (code p k v) (row_at u e (left - m) x)
   row-turn k v m x g q = rw (g.goes, q, row_step u e left p h, g.here)
 
-  pub row_more : (a b : Counts) (k v m : ℕ) (x : Cursor) → Coded u e p k v x → m ≡ paints left (code p k v) → b ≡ plus a (counted left (code p k v))
-      → plus_row b (row_answer (left - m) x.pos (row_at u e (left - m) x.pos)) ≡ plus_row a (row_answer left p (row_at u e left p))
+  pub row_more : (a b : Counts) (k v m : ℕ) (x : ℕ) → Coded u e p k v x → m ≡ paints left (code p k v) → b ≡ plus a (counted left (code p k v))
+      → plus_row b (row_answer (left - m) (row_at u e (left - m) x)) ≡ plus_row a (row_answer left (row_at u e left p))
   unfolding after_codes row_counts
   row_more a b k v m x g q f = rw (row-turn k v m x g q, g.goes, f, q) (go (row_at u e (left - paints left (code p k v)) (p + k)))
     where
       go : (o : Res (List Code))
-          → plus_row (plus a (counted left (code p k v))) (row_answer (left - paints left (code p k v)) (p + k) o)
-          ≡ plus_row a (row_answer left p (cons_res (code p k v) o))
+          → plus_row (plus a (counted left (code p k v))) (row_answer (left - paints left (code p k v)) o)
+          ≡ plus_row a (row_answer left (cons_res (code p k v) o))
       go (refuse n) = refl
       go (ok cs) =
-          ap (λ (b : Counts). RowAnswer.Row b (record { pos = after_codes (p + k) cs }))
+          ap ok
           (plus_assoc a (counted left (code p k v)) (row_counts (left - paints left (code p k v)) cs))
 
   pub row-short : (n : ℕ) → code_at u e p ≡ refuse n → row_at u e left p ≡ refuse n
   row-short n q = rw (row_step u e left p h, q)
 
   -- a turn of the painting
-  pub ok-more : (k v m : ℕ) (x : Cursor) → Coded u e p k v x → m ≡ paints left (code p k v) → IsOk (row_at u e left p)
-      → IsOk (row_at u e (left - m) x.pos)
-  ok-more k v m x g q i = go (row_at u e (left - m) x.pos) (rw (row-turn k v m x g q) at i)
+  pub ok-more : (k v m : ℕ) (x : ℕ) → Coded u e p k v x → m ≡ paints left (code p k v) → IsOk (row_at u e left p)
+      → IsOk (row_at u e (left - m) x)
+  ok-more k v m x g q i = go (row_at u e (left - m) x) (rw (row-turn k v m x g q) at i)
     where
       go : (o : Res (List Code)) → IsOk (cons_res (code p k v) o) → IsOk o
       go (refuse n) f = f
       go (ok cs) f = f
 
-  pub after_more : (k v m : ℕ) (x : Cursor) → Coded u e p k v x → m ≡ paints left (code p k v) → IsOk (row_at u e left p)
-      → after_codes x.pos (listed (row_at u e (left - m) x.pos)) ≡ after_codes p (listed (row_at u e left p))
+  pub after_more : (k v m : ℕ) (x : ℕ) → Coded u e p k v x → m ≡ paints left (code p k v) → IsOk (row_at u e left p)
+      → after_codes x (listed (row_at u e (left - m) x)) ≡ after_codes p (listed (row_at u e left p))
   unfolding after_codes
   after_more k v m x g q i = rw (row-turn k v m x g q, g.goes) (go (row_at u e (left - m) (p + k)) (rw (row-turn k v m x g q, g.goes) at i))
     where
@@ -138,12 +125,12 @@ module _ (u : List ℕ) (e left p : ℕ) (h : 0 < left) where
       go (refuse n) f = absurd f
       go (ok cs) f = refl
 
-  pub paint_more : (k v m : ℕ) (x : Cursor) → Coded u e p k v x → m ≡ paints left (code p k v) → IsOk (row_at u e left p)
+  pub paint_more : (k v m : ℕ) (x : ℕ) → Coded u e p k v x → m ≡ paints left (code p k v) → IsOk (row_at u e left p)
       → (px px' : List ℕ) (o a : ℕ) → a ≡ v % 4 → px' ≡ sets px o (replicate m a)
-      → sets px' (o + m) (row_pixels (left - m) (listed (row_at u e (left - m) x.pos))) ≡ sets px o (row_pixels left (listed (row_at u e left p)))
+      → sets px' (o + m) (row_pixels (left - m) (listed (row_at u e (left - m) x))) ≡ sets px o (row_pixels left (listed (row_at u e left p)))
   unfolding row_pixels
   paint_more k v m x g q i px px' o a ea ep =
-      rw (row-turn k v m x g q, ep, ea, q) (go (row_at u e (left - paints left (code p k v)) x.pos) (rw (row-turn k v m x g q, q) at i))
+      rw (row-turn k v m x g q, ep, ea, q) (go (row_at u e (left - paints left (code p k v)) x) (rw (row-turn k v m x g q, q) at i))
     where
       go : (r : Res (List Code)) → IsOk (cons_res (code p k v) r)
           → sets (sets px o (replicate (paints left (code p k v)) (v % 4))) (o + paints left (code p k v)) (row_pixels (left - paints left (code p k v)) (listed r))
@@ -151,9 +138,9 @@ module _ (u : List ℕ) (e left p : ℕ) (h : 0 < left) where
       go (refuse n) f = absurd f
       go (ok cs) f = rw sets-append (rw length-replicate)
 
-pub row-end : (u : List ℕ) (e left p : ℕ) (a : Counts) → left ≡ 0 → plus_row a (row_answer left p (row_at u e left p)) ≡ RowAnswer.Row a (record { pos = p })
+pub row-end : (u : List ℕ) (e left p : ℕ) (a : Counts) → left ≡ 0 → plus_row a (row_answer left (row_at u e left p)) ≡ ok a
 unfolding after_codes row_counts
-row-end u e left p a q = rw (q, row-none) (ap (λ (b : Counts). RowAnswer.Row b (record { pos = p })) (plus-nothing a))
+row-end u e left p a q = rw (q, row-none) (ap ok (plus-nothing a))
 
 pub after-end : (u : List ℕ) (e left p : ℕ) → left ≡ 0 → p ≡ after_codes p (listed (row_at u e left p))
 unfolding after_codes
@@ -179,48 +166,48 @@ row-few u e left p (c ∷ cs) a h l =
     (at-most-counted p c.size left c a h.2.one l))
 
 -- what an answer with a row says
-pub record Rowed (u : List ℕ) (e w p : ℕ) (b : Counts) (x : Cursor) : Type 0 where
+pub record Rowed (u : List ℕ) (e w p : ℕ) (b : Counts) (x : ℕ) : Type 0 where
   pub cs : List Code
   pub here : row_at u e w p ≡ ok cs
   pub count : b ≡ row_counts w cs
-  pub goes : x.pos ≡ after_codes p cs
+  pub goes : x ≡ after_codes p cs
   pub few : (a : Counts) → AtMost p a → AtMost (after_codes p cs) (plus a b)
   pub inside : 0 < w → after_codes p cs ≤ 2 * e
 
-pub rowed : (u : List ℕ) (e w p : ℕ) (b : Counts) (x : Cursor) → RowAnswer.Row b x ≡ row_answer w p (row_at u e w p) → Rowed u e w p b x
-rowed u e w p b x q = go (row_at u e w p) refl q
+pub rowed : (u : List ℕ) (e w p : ℕ) (b : Counts) (x : ℕ) → ok b ≡ row_answer w (row_at u e w p)
+    → (IsOk (row_at u e w p) → x ≡ after_codes p (listed (row_at u e w p))) → Rowed u e w p b x
+rowed u e w p b x q y = go (row_at u e w p) refl q y
   where
-    go : (o : Res (List Code)) → row_at u e w p ≡ o → RowAnswer.Row b x ≡ row_answer w p o → Rowed u e w p b x
-    go (refuse n) h q' = let z : ◌≡◌ {A = ℕ} 0 1 = cc in absurd (omega arith)
-    go (ok r) h q' =
-        let y : x ≡ record { pos = after_codes p r } = cc in
-        let z : b ≡ row_counts w r = cc in
+    go : (o : Res (List Code)) → row_at u e w p ≡ o → ok b ≡ row_answer w o → (IsOk o → x ≡ after_codes p (listed o)) → Rowed u e w p b x
+    go (refuse n) h q' y' = let z : ◌≡◌ {A = ℕ} 0 1 = cc in absurd (omega arith)
+    go (ok r) h q' y' =
+        let z : b ≡ row_counts w r = ok-injective q' in
         let f = (row-iff u e w p r).0 h in
         record {
           cs = r;
           here = h;
           count = z;
-          goes = ap (λ (a : Cursor). a.pos) y;
+          goes = y' tt;
           few = λ a l. subst (λ (d : Counts). AtMost (after_codes p r) (plus a d)) (sym z) (row-few u e w p r a f l);
           inside = row_inside u e w p r f;
         }
 
 -- a reader that stands after a row aligns to the next byte
-pub row-aligned : (u : List ℕ) (w p : ℕ) (b : Counts) (x : Cursor) → length u * 1 < 2 ^ 63 → Rowed u (length u) w p b x → 0 < w → (r : ℕ) → r ≡ on_byte x.pos → r ≡ align x.pos
-row-aligned u w p b x f g h r q = q ∙ on_byte_lem u x.pos f (omega (arith, g.goes, g.inside h))
+pub row-aligned : (u : List ℕ) (w p : ℕ) (b : Counts) (x : ℕ) → length u * 1 < 2 ^ 63 → Rowed u (length u) w p b x → 0 < w → (r : ℕ) → r ≡ on_byte x → r ≡ align x
+row-aligned u w p b x f g h r q = q ∙ on_byte_lem u x f (omega (arith, g.goes, g.inside h))
 
-pub unrowed : (u : List ℕ) (e w p n : ℕ) → RowAnswer.Refused n ≡ row_answer w p (row_at u e w p) → row_at u e w p ≡ refuse n
+pub unrowed : (u : List ℕ) (e w p n : ℕ) → refuse n ≡ row_answer w (row_at u e w p) → row_at u e w p ≡ refuse n
 unrowed u e w p n q = go (row_at u e w p) refl q
   where
-    go : (o : Res (List Code)) → row_at u e w p ≡ o → RowAnswer.Refused n ≡ row_answer w p o → row_at u e w p ≡ refuse n
+    go : (o : Res (List Code)) → row_at u e w p ≡ o → refuse n ≡ row_answer w o → row_at u e w p ≡ refuse n
     go (refuse m) h q' = let z : m ≡ n = cc in h ∙ ap refuse z
     go (ok r) h q' = let z : ◌≡◌ {A = ℕ} 0 1 = cc in absurd (omega arith)
 
 -- ---- Fields
 
-pub field-whole : (r : FieldAnswer) → plus_field nothing r ≡ r
-field-whole (FieldAnswer.Rows b) = ap FieldAnswer.Rows (nothing-plus b)
-field-whole (FieldAnswer.Refused n) = refl
+pub field-whole : (r : Res Counts) → plus_field nothing r ≡ r
+field-whole (ok b) = ap ok (nothing-plus b)
+field-whole (refuse n) = refl
 
 module _ (u : List ℕ) (e w n p : ℕ) (h : 0 < n) where
   pub field_step : field_at u e w n p ≡ and_then (row_at u e w p) (λ r. cons_res r (field_at u e w (n - 1) (align (after_codes p r))))
@@ -233,14 +220,14 @@ module _ (u : List ℕ) (e w n p : ℕ) (h : 0 < n) where
   pub field-short : (k : ℕ) → row_at u e w p ≡ refuse k → field_at u e w n p ≡ refuse k
   field-short k q = rw (field_step, q)
 
-  pub field-more : (a b d : Counts) (at : ℕ) (x : Cursor) → Rowed u e w p b x → at ≡ align x.pos → d ≡ plus a b
+  pub field-more : (a b d : Counts) (at : ℕ) (x : ℕ) → Rowed u e w p b x → at ≡ align x → d ≡ plus a b
       → plus_field d (field_answer w (field_at u e w (n - 1) at)) ≡ plus_field a (field_answer w (field_at u e w n p))
   unfolding field_counts
   field-more a b d at x g q f = rw (field_step, g.here, q, g.goes, f, g.count) (go (field_at u e w (n - 1) (align (after_codes p g.cs))))
     where
       go : (o : Res (List (List Code))) → plus_field (plus a (row_counts w g.cs)) (field_answer w o) ≡ plus_field a (field_answer w (cons_res g.cs o))
       go (refuse k) = refl
-      go (ok rs) = ap FieldAnswer.Rows (plus_assoc a (row_counts w g.cs) (field_counts w rs))
+      go (ok rs) = ap ok (plus_assoc a (row_counts w g.cs) (field_counts w rs))
 
   -- a turn of the painting
   pub row-there : IsOk (field_at u e w n p) → IsOk (row_at u e w p)
@@ -287,9 +274,9 @@ module _ (u : List ℕ) (e w n p : ℕ) (h : 0 < n) where
       go (refuse k) q f = absurd f
       go (ok r) q f = rw q (row_inside u e w p r ((row-iff u e w p r).0 q) l)
 
-pub field_end : (u : List ℕ) (e w n p : ℕ) (a : Counts) → n ≡ 0 → plus_field a (field_answer w (field_at u e w n p)) ≡ FieldAnswer.Rows a
+pub field_end : (u : List ℕ) (e w n p : ℕ) (a : Counts) → n ≡ 0 → plus_field a (field_answer w (field_at u e w n p)) ≡ ok a
 unfolding field_at field_counts
-field_end u e w n p a q = rw q (ap FieldAnswer.Rows (plus-nothing a))
+field_end u e w n p a q = rw q (ap ok (plus-nothing a))
 
 pub field-paint_end : (u : List ℕ) (e w n p o : ℕ) (px : List ℕ) → n ≡ 0 → px ≡ paint_field w o (listed (field_at u e w n p)) px
 unfolding field_at paint_field
@@ -310,7 +297,7 @@ blank u e (suc n) p =
     let b = blank u e n (align p) in
     record { rs = [] ∷ b.rs; here = rw (row-none, b.here); none = rw b.none; bare = b.bare; same = λ o px. b.same (o + 2 * 0) px }
 
-pub blank-counts : (u : List ℕ) (e w n : ℕ) → w ≡ 0 → FieldAnswer.Rows nothing ≡ field_answer w (field_at u e w n 0)
+pub blank-counts : (u : List ℕ) (e w n : ℕ) → w ≡ 0 → ok nothing ≡ field_answer w (field_at u e w n 0)
 blank-counts u e w n q = rw (q, (blank u e n 0).here, (blank u e n 0).none)
 
 pub blank-kept : (u : List ℕ) (e w n o : ℕ) (px : List ℕ) → w ≡ 0 → px ≡ paint_field w o (listed (field_at u e w n 0)) px
@@ -361,17 +348,17 @@ rows_fit s h w l a b =
 -- ---- A field decoded
 
 -- what an answer with counts says
-pub fielded : (u : List ℕ) (e w n p : ℕ) (b : Counts) → FieldAnswer.Rows b ≡ field_answer w (field_at u e w n p) → IsOk (field_at u e w n p)
+pub fielded : (u : List ℕ) (e w n p : ℕ) (b : Counts) → ok b ≡ field_answer w (field_at u e w n p) → IsOk (field_at u e w n p)
 fielded u e w n p b q = go (field_at u e w n p) q
   where
-    go : (o : Res (List (List Code))) → FieldAnswer.Rows b ≡ field_answer w o → IsOk o
+    go : (o : Res (List (List Code))) → ok b ≡ field_answer w o → IsOk o
     go (refuse k) q' = let z : ◌≡◌ {A = ℕ} 0 1 = cc in absurd (omega arith)
     go (ok r) q' = tt
 
-pub unfielded : (u : List ℕ) (e w n p k : ℕ) → FieldAnswer.Refused k ≡ field_answer w (field_at u e w n p) → field_at u e w n p ≡ refuse k
+pub unfielded : (u : List ℕ) (e w n p k : ℕ) → refuse k ≡ field_answer w (field_at u e w n p) → field_at u e w n p ≡ refuse k
 unfielded u e w n p k q = go (field_at u e w n p) refl q
   where
-    go : (o : Res (List (List Code))) → field_at u e w n p ≡ o → FieldAnswer.Refused k ≡ field_answer w o → field_at u e w n p ≡ refuse k
+    go : (o : Res (List (List Code))) → field_at u e w n p ≡ o → refuse k ≡ field_answer w o → field_at u e w n p ≡ refuse k
     go (refuse m) h q' = let z : m ≡ k = cc in h ∙ ap refuse z
     go (ok r) h q' = let z : ◌≡◌ {A = ℕ} 0 1 = cc in absurd (omega arith)
 
@@ -381,7 +368,7 @@ unfolding paint_field
 refused-kept w o k r px q = rw q
 
 module _ (s : List ℕ) (w h start : ℕ) (px : List ℕ) where
-  pub decoded-short : leb (w * h) (length px) ≡ false → Decoded s w h start px (FieldAnswer.Refused short_pixels) px
+  pub decoded-short : leb (w * h) (length px) ≡ false → Decoded s w h start px (refuse short_pixels) px
   unfolding decoded paint_field
   decoded-short q = record { answer = rw q; pixels = rw q }
 
@@ -390,9 +377,9 @@ module _ (s : List ℕ) (w h start : ℕ) (px : List ℕ) where
     unfolding decoded
     decoded-held n q = rw (le-leb (w * h) (length px) fits, q)
 
-    pub decoded-none : h ≤ start → Decoded s w h start px (FieldAnswer.Rows nothing) px
+    pub decoded-none : h ≤ start → Decoded s w h start px (ok nothing) px
     unfolding field_at field_counts paint_field
     decoded-none a = let q : ok [] ≡ decoded s w h start px = decoded-held 0 (sym (rows_none start h a)) in record { answer = rw (← q); pixels = rw (← q) }
 
-    pub decoded-rows : (n : ℕ) → n ≡ rows_from start h → (r : FieldAnswer) (px' : List ℕ) → RowsDecoded s w n (start * w) px r px' → Decoded s w h start px r px'
+    pub decoded-rows : (n : ℕ) → n ≡ rows_from start h → (r : Res Counts) (px' : List ℕ) → RowsDecoded s w n (start * w) px r px' → Decoded s w h start px r px'
     decoded-rows n q r px' f = let d = decoded-held n q in record { answer = rw (← d) f.answer; pixels = rw (← d) f.pixels }

@@ -7,11 +7,10 @@ use native.Mathlib.Omega.{arith}
 use lib.Dec.{ltb}
 use lib.ListN.{length}
 use borrow.Author.Tests.{lt-ltb, le-ltb, ltb-true, ltb-false, eq-eqb, ne_eqb}
-use Rattle.outcome.specs.Outcome.{ok, check, field_ran_out}
+use Rattle.outcome.specs.Outcome.{ok, refuse, check, field_ran_out}
 use Rattle.grammar.specs.Bytes.{byte, nibble}
 use Rattle.grammar.specs.Rows.{align}
-use Rattle.rle_model.specs.Nibbles.{nibble_at, nibble_answer, on_byte}
-use Rattle.rle_model.specs.declared.Nibble.TheVariants.{Is, Refused}
+use Rattle.rle_model.specs.Nibbles.{nibble_at, on_byte}
 
 pub inside : (p n : ℕ) → p / 2 < n → ltb p (2 * n) ≡ true
 inside p n h = lt-ltb p (2 * n) (omega arith)
@@ -29,18 +28,18 @@ unfolding nibble
 nibble-low s p h = let n : p % 2 ≡ 0 → ⊥ = λ z. omega arith in rw (ne_eqb (p % 2) 0 n)
 
 -- where a nibble was read, the count is inside and the nibble is the field's
-pub is-nibble : (s : List ℕ) (p n : ℕ) → Is n ≡ nibble_answer (nibble_at s p) → (p < 2 * length s) × (n ≡ nibble s p)
+pub is-nibble : (s : List ℕ) (p n : ℕ) → ok n ≡ nibble_at s p → (p < 2 * length s) × (n ≡ nibble s p)
 is-nibble s p n q = go (ltb p (2 * length s)) refl q
   where
-    go : (t : Bool) → ltb p (2 * length s) ≡ t → Is n ≡ nibble_answer (check t field_ran_out (ok (nibble s p))) → (p < 2 * length s) × (n ≡ nibble s p)
+    go : (t : Bool) → ltb p (2 * length s) ≡ t → ok n ≡ check t field_ran_out (ok (nibble s p)) → (p < 2 * length s) × (n ≡ nibble s p)
     go true h q' = (ltb-true _ _ h, cc)
     go false h q' = let z : ◌≡◌ {A = ℕ} 0 1 = cc in absurd (omega arith)
 
 -- where the field ran out, the count is past it, and the number is 26
-pub ran_out : (s : List ℕ) (p n : ℕ) → Refused n ≡ nibble_answer (nibble_at s p) → (2 * length s ≤ p) × (n ≡ field_ran_out)
+pub ran_out : (s : List ℕ) (p n : ℕ) → refuse n ≡ nibble_at s p → (2 * length s ≤ p) × (n ≡ field_ran_out)
 ran_out s p n q = go (ltb p (2 * length s)) refl q
   where
-    go : (t : Bool) → ltb p (2 * length s) ≡ t → Refused n ≡ nibble_answer (check t field_ran_out (ok (nibble s p))) → (2 * length s ≤ p) × (n ≡ field_ran_out)
+    go : (t : Bool) → ltb p (2 * length s) ≡ t → refuse n ≡ check t field_ran_out (ok (nibble s p)) → (2 * length s ≤ p) × (n ≡ field_ran_out)
     go true h q' = let z : ◌≡◌ {A = ℕ} 0 1 = cc in absurd (omega arith)
     go false h q' = (ltb-false _ _ h, cc)
 

@@ -8,10 +8,7 @@ use Rattle.grammar.specs.Pixels.{row_pixels, codes_in, clipped_in}
 use Rattle.rle_model.specs.Codes.{row_at, row_read, field_at, field_read}
 use Rattle.rle_model.specs.Field.{decoded, paint_field}
 use Rattle.rle_model.specs.Kept.{kept_row, kept_all}
-use Rattle.rle_model.specs.declared.Cursor.{Cursor}
 use Rattle.rle_model.specs.declared.Counts.{Counts}
-use Rattle.rle_model.specs.declared.RowAnswer.{RowAnswer}
-use Rattle.rle_model.specs.declared.FieldAnswer.{FieldAnswer}
 
 -- ---- What rows count (FORMAT 5.9, 5.11)
 
@@ -47,46 +44,48 @@ listed_counts w rs = record { codes = codes_in rs; clipped = clipped_in w rs }
 
 -- ---- Answers
 
--- of a row of width w whose codes start at p: what it counts, and the place after it
-abbrev pub row_answer : ℕ → ℕ → Res (List Code) → RowAnswer
-row_answer w p (ok cs) = RowAnswer.Row (row_counts w cs) (record { pos = after_codes p cs })
-row_answer w p (refuse n) = RowAnswer.Refused n
+-- of a row of width w: what it counts
+abbrev pub row_answer : ℕ → Res (List Code) → Res Counts
+row_answer w (ok cs) = ok (row_counts w cs)
+row_answer w (refuse n) = refuse n
 
-abbrev pub field_answer : ℕ → Res (List (List Code)) → FieldAnswer
-field_answer w (ok rs) = FieldAnswer.Rows (field_counts w rs)
-field_answer w (refuse n) = FieldAnswer.Refused n
+abbrev pub field_answer : ℕ → Res (List (List Code)) → Res Counts
+field_answer w (ok rs) = ok (field_counts w rs)
+field_answer w (refuse n) = refuse n
 
 -- the counts a, and then the field's
-abbrev pub plus_field : Counts → FieldAnswer → FieldAnswer
-plus_field a (FieldAnswer.Rows b) = FieldAnswer.Rows (plus a b)
-plus_field a (FieldAnswer.Refused n) = FieldAnswer.Refused n
+abbrev pub plus_field : Counts → Res Counts → Res Counts
+plus_field a (ok b) = ok (plus a b)
+plus_field a (refuse n) = refuse n
 
 -- a field of n rows, measured
-abbrev pub measured : List ℕ → ℕ → ℕ → FieldAnswer
+abbrev pub measured : List ℕ → ℕ → ℕ → Res Counts
 measured s w n = field_answer w (field_at s (length s) w n 0)
 
--- what measuring a row leaves: the codes that were read, all of them or those before the field ran out, are kept from place i on
-pub record RowMeasured (s : List ℕ) (w p i : ℕ) (ks : List ℕ) (r : RowAnswer) (ks' : List ℕ) : Type 0 where
-  pub answer : r ≡ row_answer w p (row_at s (length s) w p)
+-- what measuring a row whose codes start at p leaves: the codes that were read, all of them or those before the field ran out, are kept
+-- from place i on; and the place p' of the reader is behind the row
+pub record RowMeasured (s : List ℕ) (w p i : ℕ) (ks : List ℕ) (r : Res Counts) (ks' : List ℕ) (p' : ℕ) : Type 0 where
+  pub answer : r ≡ row_answer w (row_at s (length s) w p)
+  pub next : IsOk (row_at s (length s) w p) → p' ≡ after_codes p (listed (row_at s (length s) w p))
   pub keeps : ks' ≡ sets ks i (kept_row w (row_read s (length s) w p))
 
 -- what measuring a field leaves, in the same way
-pub record FieldMeasured (s : List ℕ) (w n : ℕ) (ks : List ℕ) (r : FieldAnswer) (ks' : List ℕ) : Type 0 where
+pub record FieldMeasured (s : List ℕ) (w n : ℕ) (ks : List ℕ) (r : Res Counts) (ks' : List ℕ) : Type 0 where
   pub answer : r ≡ measured s w n
   pub keeps : ks' ≡ sets ks 0 (kept_all w (field_read s (length s) w n 0))
 
--- what filling a row of width w from place o on leaves
-pub record RowFilled (s : List ℕ) (w p o : ℕ) (px : List ℕ) (r : Cursor) (px' : List ℕ) : Type 0 where
-  pub next : r.pos ≡ after_codes p (listed (row_at s (length s) w p))
+-- what filling a row of width w from place o on leaves, of the map and of the place
+pub record RowFilled (s : List ℕ) (w p o : ℕ) (px px' : List ℕ) (p' : ℕ) : Type 0 where
+  pub next : p' ≡ after_codes p (listed (row_at s (length s) w p))
   pub pixels : px' ≡ sets px o (row_pixels w (listed (row_at s (length s) w p)))
 
 -- what decoding a field's n rows from place o on leaves
-pub record RowsDecoded (s : List ℕ) (w n o : ℕ) (px : List ℕ) (r : FieldAnswer) (px' : List ℕ) : Type 0 where
+pub record RowsDecoded (s : List ℕ) (w n o : ℕ) (px : List ℕ) (r : Res Counts) (px' : List ℕ) : Type 0 where
   pub answer : r ≡ measured s w n
   pub pixels : px' ≡ paint_field w o (listed (field_at s (length s) w n 0)) px
 
 -- what decoding a field leaves: on a refusal nothing is listed, so the map is as found
-pub record Decoded (s : List ℕ) (w h start : ℕ) (px : List ℕ) (r : FieldAnswer) (px' : List ℕ) : Type 0 where
+pub record Decoded (s : List ℕ) (w h start : ℕ) (px : List ℕ) (r : Res Counts) (px' : List ℕ) : Type 0 where
   pub answer : r ≡ field_answer w (decoded s w h start px)
   pub pixels : px' ≡ paint_field w (start * w) (listed (decoded s w h start px)) px
 
@@ -103,4 +102,4 @@ pub record Ready (s : List ℕ) (w n codes : ℕ) (ks : List ℕ) : Type 0 where
 
 -- a field's n rows are there and count b
 abbrev pub Counted : List ℕ → ℕ → ℕ → Counts → Type 0
-Counted s w n b = FieldAnswer.Rows b ≡ measured s w n
+Counted s w n b = ok b ≡ measured s w n

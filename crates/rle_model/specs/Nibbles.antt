@@ -1,19 +1,12 @@
 -- What the reader of nibbles finds at a half-byte count of a field, and the counts that it goes to. Assumes nothing: these are definitions.
 use Rattle.std.specs.Prelude.{ℕ, ◌+◌, ◌-◌, ◌*◌, ◌^◌, cond, List, eqb, ltb, length}
-use Rattle.outcome.specs.Outcome.{Res, ok, refuse, check, field_ran_out}
+use Rattle.outcome.specs.Outcome.{Res, ok, check, field_ran_out}
 use Rattle.grammar.specs.Bytes.{nibble}
 use Rattle.grammar.specs.Rows.{align}
-use Rattle.rle_model.specs.declared.Nibble.{Nibble}
-use Rattle.rle_model.specs.declared.Nibble.TheVariants.{Is, Refused}
 
 -- the nibble at half byte p (FORMAT 5.1), or refusal 26 where the field ran out
 abbrev pub nibble_at : List ℕ → ℕ → Res ℕ
 nibble_at s p = check (ltb p (2 * length s)) field_ran_out (ok (nibble s p))
-
--- what the answer of a read means
-abbrev pub nibble_answer : Res ℕ → Nibble
-nibble_answer (ok n) = Is n
-nibble_answer (refuse n) = Refused n
 
 -- the count after a read at p: where the field ran out it stays
 abbrev pub past_nibble : List ℕ → ℕ → ℕ

@@ -1,6 +1,5 @@
 // Runs rows through the functions of `vobsub_c`, and writes a line for each: the function, the row's name, its answer, and
-// the memory lent for it, with `.` for what is as found: bytes of 237, words of EEEE, starts of -77, positions of
-// EDEDEDED; for decode_rle_field both numbers of codes, of 77; for a refused decode_cue times of -77 and numbers of 77.
+// the memory lent for it, with `.` for what is as found (`Lent`); for a refused decode_cue its times and numbers too.
 // A line of standard input is a row: the function, its name, its numbers, its bytes, and for decode_cue the bytes of
 // the file, with a bar between them. The numbers are those of the call in its order, and how much memory is lent:
 // parse_and_decode_spu: map. extract_spu: position, stream; scratch. parse_idx: starts, positions. pick_cue: cue.
@@ -9,608 +8,341 @@
 // the others in runs.
 #![tactic(auto)]
 
-use idx_numbers::starts;
-use std::io::Read;
+use run_rows::Row;
+use std::fmt::Display;
+use std::io;
 
-// No grey of an index of no bytes.
-const FOUND: u8 = 237;
-
-const FOUND_WORD: u16 = 0xEEEE;
-
-const FOUND_START: i64 = -77;
-
-const FOUND_POSITION: u32 = 0xEDEDEDED;
-
-const FOUND_NUMBER: u64 = 77;
-
-// Writes s. What a write that fails leaves unwritten stays so.
-fn say(rt: &impl Print, s: &[u8]) {
-    let _ = rt.write_all(s);
+// What is lent, and what it holds before a call. No grey of an index of no bytes is as found.
+trait Lent: Copy + PartialEq + Display + Drop {
+    const FOUND: Self;
 }
 
-fn decimal(rt: &impl Print, n: u64) {
-    let _ = rt.print(n);
+impl Lent for u8 {
+    const FOUND: u8 = 237;
 }
 
-fn digit(rt: &impl Print, n: usize) {
-    let d = (n % 16) as u8;
-    if d < 10 {
-        say(rt, &[48 + d]);
+impl Lent for u16 {
+    const FOUND: u16 = 0xEEEE;
+}
+
+// A place is as found only where all four of its bytes are.
+impl Lent for u32 {
+    const FOUND: u32 = 0xEDEDEDED;
+}
+
+impl Lent for u64 {
+    const FOUND: u64 = 77;
+}
+
+impl Lent for i64 {
+    const FOUND: i64 = -77;
+}
+
+// Whether nothing is refused; a refusal is written.
+fn is_answered(rt: &impl Print, refusal: u8) -> io::Result<bool> {
+    if refusal != 0 {
+        print!(rt; ": refused {refusal}")?;
+    }
+    Ok(refusal == 0)
+}
+
+fn write_lent<T: Lent>(rt: &impl Print, value: T) -> io::Result<()> {
+    if value == T::FOUND {
+        print!(rt; " .")
     } else {
-        say(rt, &[55 + d]);
+        print!(rt; " {value}")
     }
 }
 
-fn hex(rt: &impl Print, n: usize) {
-    digit(rt, n / 16);
-    digit(rt, n);
-}
-
-fn mark(rt: &impl Print, c: u8, n: usize) {
-    let kind = c / 16;
-    if kind == 4 {
-        decimal(rt, n as u64);
-        return;
+fn write_all_lent<T: Lent>(rt: &impl Print, values: &[T]) -> io::Result<()> {
+    for value in values {
+        write_lent(rt, *value)?;
     }
-    if kind == 5 {
-        hex(rt, n / 256);
-        hex(rt, n);
-        return;
-    }
-    say(rt, &[c]);
+    Ok(())
 }
 
-fn of_byte(b: u8) -> usize {
-    b as usize
-}
-
-// Writes a form: for bytes 40 to 4F (`@`, `A` to `O`) number 0 to 15 in decimal, for 50 to 5F the same in hexadecimal,
-// and others as they are.
-fn form(rt: &impl Print, s: &[u8], numbers: &[usize; 17]) {
-    let mut i = 0;
-    while i < s.len() {
-        let c = s[i];
-        mark(rt, c, numbers[of_byte(c) % 16]);
-        i += 1;
-    }
-}
-
-fn pair(rt: &impl Print, s: &[u8], a: usize, b: usize) {
-    let mut numbers = [a; 17];
-    numbers[1] = b;
-    form(rt, s, &numbers);
-}
-
-fn number(rt: &impl Print, n: usize) {
-    form(rt, b" @", &[n; 17]);
-}
-
-// Whether nothing is refused.
-fn answered(rt: &impl Print, refusal: u8) -> bool {
-    if refusal == 0 {
-        return true;
-    }
-    form(rt, b": refused @", &[refusal as usize; 17]);
-    false
-}
-
-fn of_word(w: u16) -> usize {
-    w as usize
-}
-
-fn of_long(n: u64) -> usize {
-    n as usize
-}
-
-fn value(bytes: &[u8], words: &[u16], i: usize) -> usize {
-    if i < bytes.len() {
-        return of_byte(bytes[i]);
-    }
-    if i < words.len() {
-        return of_word(words[i]);
-    }
-    65536
-}
-
-fn any_value(bytes: &[u8], words: &[u16], longs: &[u64], i: usize) -> usize {
-    if i < longs.len() {
-        return of_long(longs[i]);
-    }
-    value(bytes, words, i)
-}
-
-fn run(rt: &impl Print, count: usize, value: usize, found: usize) {
-    if value == found {
-        form(rt, b" @x.", &[count; 17]);
-        return;
-    }
-    pair(rt, b" @xA", count, value);
-}
-
-// The n bytes, words or numbers in runs of equal values, `NxV`.
-fn runs(rt: &impl Print, bytes: &[u8], words: &[u16], longs: &[u64], n: usize, found: usize) {
-    let mut from = 0;
-    let mut i = 0;
-    while i < n {
-        let v = any_value(bytes, words, longs, i);
-        i += 1;
-        if any_value(bytes, words, longs, i) != v {
-            run(rt, i - from, v, found);
-            from = i;
+// The values in runs of equal ones, `NxV`.
+fn write_runs<T: Lent>(rt: &impl Print, values: &[T]) -> io::Result<()> {
+    for run in values.chunk_by(|a, b| a == b) {
+        let count = run.len();
+        match run.first() {
+            Some(value) if *value != T::FOUND => print!(rt; " {count}x{value}")?,
+            _ => print!(rt; " {count}x.")?,
         }
     }
+    Ok(())
 }
 
-fn byte_runs(rt: &impl Print, label: &[u8], s: &[u8]) {
-    say(rt, label);
-    runs(rt, s, &[], &[], s.len(), 237);
-}
-
-fn cell(rt: &impl Print, v: usize, found: usize) {
-    if v == found {
-        say(rt, b" .");
-        return;
+// The values in hexadecimal.
+fn write_hex<T: Lent + Into<u64>>(rt: &impl Print, values: &[T], digits: usize) -> io::Result<()> {
+    for value in values {
+        if *value == T::FOUND {
+            print!(rt; " .")?;
+        } else {
+            let n: u64 = (*value).into();
+            print!(rt; " {n:0digits$X}")?;
+        }
     }
-    say(rt, b" ");
-    if 256 < found {
-        hex(rt, v / 256);
-    }
-    hex(rt, v);
-}
-
-// The n bytes or words in hexadecimal; bytes have a `found` of 256 where none is to be marked.
-fn cells(rt: &impl Print, bytes: &[u8], words: &[u16], n: usize, found: usize) {
-    let mut i = 0;
-    while i < n {
-        cell(rt, value(bytes, words, i), found);
-        i += 1;
-    }
-}
-
-fn band_words(rt: &impl Print, s: &[u16], used: usize) {
-    if used <= s.len() {
-        cells(rt, b"", s, used, 61166);
-        let rest = &s[used..];
-        runs(rt, b"", rest, &[], rest.len(), 61166);
-    }
+    Ok(())
 }
 
 // An array of bands of which `used` words are used.
-fn band_array(rt: &impl Print, s: &[u16; 1536], used: usize) {
-    say(rt, b"; bands");
-    band_words(rt, s, used);
+fn write_bands(rt: &impl Print, words: &[u16; 1536], used: usize) -> io::Result<()> {
+    print!(rt; "; bands")?;
+    let Some((front, rest)) = words.split_at_checked(used) else {
+        return Ok(());
+    };
+    write_hex(rt, front, 4)?;
+    write_runs(rt, rest)
 }
 
-fn decoded(rt: &impl Print, unit: &[u8], map: &mut [u8]) {
-    let mut numbers: [usize; 17] = [0; 17];
-    let mut words = [FOUND_WORD; 1536];
-    let refusal = vobsub_c::vobsub_parse_and_decode_spu(unit, map, &mut words, &mut numbers);
-    if answered(rt, refusal) {
-        form(
-            rt,
-            b": area @ A B C, selectors T, alphas U, start F G, stop H I, forced J, offsets K L, change M, band words N, codes O",
-            &numbers,
-        );
-        form(rt, b", clipped @", &[numbers[16]; 17]);
+fn unit(rt: &impl Print, row: &Row<'_>) -> io::Result<()> {
+    let mut room = [u8::FOUND; 256];
+    let Some(map) = room.get_mut(..row.given(0)) else {
+        return Ok(());
+    };
+    let mut numbers = [0; 17];
+    let mut words = [u16::FOUND; 1536];
+    let refusal = vobsub_c::vobsub_parse_and_decode_spu(row.bytes, map, &mut words, &mut numbers);
+    if is_answered(rt, refusal)? {
+        run_rows::write_unit(rt, &numbers)?;
     }
-    byte_runs(rt, b"; map", map);
-    band_array(rt, &words, numbers[14]);
-}
-
-fn unit(rt: &impl Print, bytes: &[u8], room: usize) {
-    let mut map = [FOUND; 256];
-    if room <= 256 {
-        decoded(rt, bytes, &mut map[..room]);
-    }
+    print!(rt; "; map")?;
+    write_runs(rt, map)?;
+    write_bands(rt, &words, numbers[14])
 }
 
 // The bytes of a part of s.
-fn part_of(rt: &impl Print, s: &[u8], from: usize, length: usize) {
-    if from <= s.len() {
-        let rest = &s[from..];
-        cells(rt, rest, &[], outcome::lesser(length, rest.len()), 256);
-    }
+fn write_part(rt: &impl Print, s: &[u8], from: usize, length: usize) -> io::Result<()> {
+    let Some(rest) = s.get(from..) else {
+        return Ok(());
+    };
+    run_rows::write_bytes(rt, &rest[..outcome::lesser(length, rest.len())])
 }
 
-fn extracted(rt: &impl Print, file: &[u8], position: usize, stream: usize, scratch: &mut [u8]) {
-    let mut length: usize = 0;
-    let mut joined: u8 = 0;
+fn packets(rt: &impl Print, row: &Row<'_>) -> io::Result<()> {
+    let mut room = [u8::FOUND; 8];
+    let Some(scratch) = room.get_mut(..row.given(2)) else {
+        return Ok(());
+    };
+    let position = row.given(0);
+    let mut length = 0;
+    let mut joined = 0;
     let refusal = vobsub_c::vobsub_extract_spu(
-        file,
+        row.bytes,
         position,
-        stream,
+        row.given(1),
         scratch,
         &mut length,
         &mut joined,
     );
-    if answered(rt, refusal) {
+    if is_answered(rt, refusal)? {
         if joined == 0 {
-            form(rt, b": bare @,", &[length; 17]);
-            part_of(rt, file, position, length);
+            print!(rt; ": bare {length},")?;
+            write_part(rt, row.bytes, position, length)?;
         } else {
-            form(rt, b": joined @,", &[length; 17]);
-            part_of(rt, scratch, 0, length);
+            print!(rt; ": joined {length},")?;
+            write_part(rt, scratch, 0, length)?;
         }
     }
-    say(rt, b"; scratch");
-    cells(rt, scratch, &[], scratch.len(), 237);
-}
-
-fn packets(rt: &impl Print, file: &[u8], position: usize, stream: usize, room: usize) {
-    let mut scratch = [FOUND; 8];
-    if room <= 8 {
-        extracted(rt, file, position, stream, &mut scratch[..room]);
-    }
-}
-
-fn signed(rt: &impl Print, z: i64) {
-    if z < 0 {
-        say(rt, b" -");
-        let n = (-1 - z) as u64;
-        decimal(rt, n + 1);
-    } else {
-        number(rt, z as usize);
-    }
-}
-
-fn start(rt: &impl Print, z: i64) {
-    if z == FOUND_START {
-        say(rt, b" .");
-    } else {
-        signed(rt, z);
-    }
-}
-
-fn all_starts(rt: &impl Print, starts: &[i64]) {
-    say(rt, b"; starts");
-    let mut i = 0;
-    while i < starts.len() {
-        let z = starts[i];
-        start(rt, z);
-        i += 1;
-    }
-}
-
-fn counted(rt: &impl Print, n: u64) {
-    if n == FOUND_NUMBER {
-        say(rt, b" .");
-    } else {
-        number(rt, of_long(n));
-    }
-}
-
-// A place is as found only where all four of its bytes are.
-fn position(rt: &impl Print, n: u32) {
-    if n == FOUND_POSITION {
-        say(rt, b" .");
-    } else {
-        number(rt, n as usize);
-    }
-}
-
-fn all_positions(rt: &impl Print, positions: &[u32]) {
-    say(rt, b"; positions");
-    let mut i = 0;
-    while i < positions.len() {
-        position(rt, positions[i]);
-        i += 1;
-    }
-}
-
-fn black(palette: &[u8; 48]) -> bool {
-    let mut i = 0;
-    while i < 48 {
-        if palette[i] > 0 {
-            return false;
-        }
-        i += 1;
-    }
-    true
+    print!(rt; "; scratch")?;
+    write_hex(rt, scratch, 2)
 }
 
 // Whether there is a palette, and its colours, but for a black one that no line gives.
-fn colours(rt: &impl Print, any: usize, palette: &[u8; 48]) {
-    form(rt, b", palette @", &[any; 17]);
-    if any == 0 {
-        if black(palette) {
-            return;
+fn write_palette(rt: &impl Print, any: u64, palette: &[u8; 48]) -> io::Result<()> {
+    print!(rt; ", palette {any}")?;
+    if any == 0 && palette.iter().all(|part| *part == 0) {
+        return Ok(());
+    }
+    for colour in palette.chunks_exact(3) {
+        if let [red, green, blue] = colour {
+            print!(rt; " {red:02X}{green:02X}{blue:02X}")?;
         }
     }
-    let mut i = 0;
-    while i < 48 {
-        if i % 3 == 0 {
-            say(rt, b" ");
-        }
-        hex(rt, of_byte(palette[i]));
-        i += 1;
-    }
+    Ok(())
 }
 
-fn indexed(rt: &impl Print, text: &[u8], starts: &mut [i64], positions: &mut [u32]) {
-    let mut palette: [u8; 48] = [FOUND; 48];
-    let mut numbers: [usize; 4] = [77; 4];
-    let refusal = vobsub_c::vobsub_parse_idx(text, starts, positions, &mut palette, &mut numbers);
-    if answered(rt, refusal) {
-        pair(rt, b": size @ A", numbers[0], numbers[1]);
-        colours(rt, numbers[2], &palette);
-        form(rt, b", cues @", &[numbers[3]; 17]);
+fn index(rt: &impl Print, row: &Row<'_>) -> io::Result<()> {
+    let mut starts_room = [i64::FOUND; 8];
+    let Some(starts) = starts_room.get_mut(..row.given(0)) else {
+        return Ok(());
+    };
+    let mut positions_room = [u32::FOUND; 8];
+    let Some(positions) = positions_room.get_mut(..row.given(1)) else {
+        return Ok(());
+    };
+    let mut palette = [u8::FOUND; 48];
+    let mut numbers = [77; 4];
+    let refusal = vobsub_c::vobsub_parse_idx(
+        row.bytes,
+        starts,
+        positions,
+        &mut palette,
+        &mut numbers,
+    );
+    if is_answered(rt, refusal)? {
+        let [width, height, any, cues] = numbers;
+        print!(rt; ": size {width} {height}")?;
+        write_palette(rt, any as u64, &palette)?;
+        print!(rt; ", cues {cues}")?;
     }
-    all_starts(rt, starts);
-    all_positions(rt, positions);
+    print!(rt; "; starts")?;
+    write_all_lent(rt, starts)?;
+    print!(rt; "; positions")?;
+    write_all_lent(rt, positions)
 }
 
-fn index(rt: &impl Print, text: &[u8], a: usize, b: usize) {
-    let mut starts = [FOUND_START; 8];
-    let mut positions = [FOUND_POSITION; 8];
-    if a <= 8 {
-        if b <= 8 {
-            indexed(rt, text, &mut starts[..a], &mut positions[..b]);
-        }
-    }
-}
-
-fn sizes(numbers: &[u64; 13]) -> [usize; 17] {
-    let mut all = [0; 17];
-    let mut i = 0;
-    while i < 13 {
-        all[i] = of_long(numbers[i]);
-        i += 1;
-    }
-    all
-}
-
-fn lasts(rt: &impl Print, set: u64, duration: u64) {
+fn write_duration(rt: &impl Print, set: u64, duration: u64) -> io::Result<()> {
     if set == 0 {
-        say(rt, b" -");
+        print!(rt; " -")
     } else {
-        number(rt, of_long(duration));
+        print!(rt; " {duration}")
     }
 }
 
-fn cue(rt: &impl Print, text: &[u8], n: usize) {
-    let mut start: i64 = FOUND_START;
-    let mut palette: [u8; 48] = [FOUND; 48];
-    let mut numbers: [u64; 4] = [FOUND_NUMBER; 4];
-    form(rt, b", cue @", &[n; 17]);
-    let refusal = vobsub_c::vobsub_pick_cue(text, n, &mut start, &mut palette, &mut numbers);
-    if answered(rt, refusal) {
-        say(rt, b": start");
-        signed(rt, start);
-        form(rt, b", position @, duration", &[of_long(numbers[0]); 17]);
-        lasts(rt, numbers[1], numbers[2]);
-        colours(rt, of_long(numbers[3]), &palette);
+fn cue(rt: &impl Print, row: &Row<'_>) -> io::Result<()> {
+    let n = row.given(0);
+    let mut start = i64::FOUND;
+    let mut palette = [u8::FOUND; 48];
+    let mut numbers = [u64::FOUND; 4];
+    print!(rt; ", cue {n}")?;
+    let refusal = vobsub_c::vobsub_pick_cue(row.bytes, n, &mut start, &mut palette, &mut numbers);
+    if is_answered(rt, refusal)? {
+        let [position, set, duration, any] = numbers;
+        print!(rt; ": start {start}, position {position}, duration")?;
+        write_duration(rt, set, duration)?;
+        write_palette(rt, any, &palette)?;
     }
+    Ok(())
 }
 
-// What a refusal leaves of times and numbers.
-fn kept(rt: &impl Print, times: &[i64; 3], numbers: &[u64; 13]) {
-    let begin = times[0];
-    let show = times[1];
-    let hide = times[2];
-    say(rt, b", times");
-    start(rt, begin);
-    start(rt, show);
-    start(rt, hide);
-    say(rt, b", numbers");
-    runs(rt, b"", &[], numbers, 13, 77);
-}
-
-fn shown(rt: &impl Print, refusal: u8, times: &[i64; 3], numbers: &[u64; 13]) {
-    if answered(rt, refusal) {
-        let begin = times[0];
-        let show = times[1];
-        let hide = times[2];
-        say(rt, b":");
-        signed(rt, begin);
-        lasts(rt, numbers[0], numbers[1]);
-        form(
-            rt,
-            b", at D E, size F G, delays B C, codes H, clipped I, started J, stopped K, hides L, show",
-            &sizes(numbers),
-        );
-        signed(rt, show);
-        say(rt, b", hide");
-        signed(rt, hide);
-        return;
-    }
-    kept(rt, times, numbers);
-}
-
-fn painted(
+fn write_cue(
     rt: &impl Print,
-    line: &[u8],
-    text: &[u8],
-    file: &[u8],
-    scratch: &mut [u8],
-    map: &mut [u8],
-    canvas: &mut [u8],
-) {
-    let mut times: [i64; 3] = [FOUND_START; 3];
-    let mut numbers: [u64; 13] = [FOUND_NUMBER; 13];
+    refusal: u8,
+    times: &[i64; 3],
+    numbers: &[u64; 13],
+) -> io::Result<()> {
+    if !is_answered(rt, refusal)? {
+        print!(rt; ", times")?;
+        write_all_lent(rt, &times[..])?;
+        print!(rt; ", numbers")?;
+        return write_runs(rt, &numbers[..]);
+    }
+    let [start, show, hide] = *times;
+    let [
+        set,
+        duration,
+        start_delay,
+        stop_delay,
+        x,
+        y,
+        width,
+        height,
+        codes,
+        clipped,
+        started,
+        stopped,
+        hides,
+    ] = *numbers;
+    print!(rt; ": {start}")?;
+    write_duration(rt, set, duration)?;
+    print!(rt; ", at {x} {y}, size {width} {height}, delays {start_delay} {stop_delay}")?;
+    print!(rt; ", codes {codes}, clipped {clipped}, started {started}, stopped {stopped}")?;
+    print!(rt; ", hides {hides}, show {show}, hide {hide}")
+}
+
+fn paint(rt: &impl Print, row: &Row<'_>) -> io::Result<()> {
+    let mut file_room = [0; 8192];
+    let n = row.stored(4, &mut file_room);
+    let Some(file) = file_room.get(..n) else {
+        return Ok(());
+    };
+    let mut scratch_room = [u8::FOUND; 8192];
+    let Some(scratch) = scratch_room.get_mut(..row.given(2)) else {
+        return Ok(());
+    };
+    let mut map_room = [u8::FOUND; 300];
+    let Some(map) = map_room.get_mut(..row.given(3)) else {
+        return Ok(());
+    };
+    let mut canvas_room = [u8::FOUND; 1200];
+    let Some(canvas) = canvas_room.get_mut(..row.given(4)) else {
+        return Ok(());
+    };
+    let mut times = [i64::FOUND; 3];
+    let mut numbers = [u64::FOUND; 13];
     let refusal = vobsub_c::vobsub_decode_cue(
-        text,
+        row.bytes,
         file,
-        table::given(line, 0),
-        table::given(line, 1),
+        row.given(0),
+        row.given(1),
         scratch,
         map,
         canvas,
         &mut times,
         &mut numbers,
     );
-    shown(rt, refusal, &times, &numbers);
-    byte_runs(rt, b"; scratch", scratch);
-    byte_runs(rt, b"; map", map);
-    byte_runs(rt, b"; canvas", canvas);
+    write_cue(rt, refusal, &times, &numbers)?;
+    print!(rt; "; scratch")?;
+    write_runs(rt, scratch)?;
+    print!(rt; "; map")?;
+    write_runs(rt, map)?;
+    print!(rt; "; canvas")?;
+    write_runs(rt, canvas)
 }
 
-fn lent(rt: &impl Print, line: &[u8], text: &[u8], file: &[u8]) {
-    let mut scratch = [FOUND; 8192];
-    let mut map = [FOUND; 300];
-    let mut canvas = [FOUND; 1200];
-    let a = table::given(line, 2);
-    let b = table::given(line, 3);
-    let c = table::given(line, 4);
-    if a <= 8192 {
-        if b <= 300 {
-            if c <= 1200 {
-                painted(
-                    rt,
-                    line,
-                    text,
-                    file,
-                    &mut scratch[..a],
-                    &mut map[..b],
-                    &mut canvas[..c],
-                );
-            }
-        }
-    }
-}
-
-fn with_file(rt: &impl Print, line: &[u8], text: &[u8], file: &[u8], n: usize) {
-    if n <= file.len() {
-        lent(rt, line, text, &file[..n]);
-    }
-}
-
-fn paint(rt: &impl Print, line: &[u8], text: &[u8]) {
-    let mut file = [0; 8192];
-    let n = table::stored(line, 4, &mut file);
-    with_file(rt, line, text, &file, n);
-}
-
-fn field_decoded(
-    rt: &impl Print,
-    field: &[u8],
-    width: usize,
-    height: usize,
-    start_row: usize,
-    map: &mut [u8],
-) {
-    let mut codes: usize = 77;
-    let mut clipped: usize = 77;
+fn field(rt: &impl Print, row: &Row<'_>) -> io::Result<()> {
+    let mut room = [u8::FOUND; 60000];
+    let Some(map) = room.get_mut(..row.given(3)) else {
+        return Ok(());
+    };
+    let mut codes = 77;
+    let mut clipped = 77;
     let refusal = vobsub_c::vobsub_decode_rle_field(
-        field,
-        width,
-        height,
-        start_row,
+        row.bytes,
+        row.given(0),
+        row.given(1),
+        row.given(2),
         map,
         &mut codes,
         &mut clipped,
     );
-    if answered(rt, refusal) {
-        say(rt, b":");
+    if is_answered(rt, refusal)? {
+        print!(rt; ": codes")?;
     } else {
-        say(rt, b",");
+        print!(rt; ", codes")?;
     }
-    say(rt, b" codes");
-    counted(rt, codes as u64);
-    say(rt, b", clipped");
-    counted(rt, clipped as u64);
-    byte_runs(rt, b",", map);
+    write_lent(rt, codes as u64)?;
+    print!(rt; ", clipped")?;
+    write_lent(rt, clipped as u64)?;
+    print!(rt; ",")?;
+    write_runs(rt, map)
 }
 
-fn field(rt: &impl Print, line: &[u8], bytes: &[u8], width: usize, height: usize) {
-    let mut map = [FOUND; 60000];
-    let room = table::given(line, 3);
-    if room <= 60000 {
-        field_decoded(
-            rt,
-            bytes,
-            width,
-            height,
-            table::given(line, 2),
-            &mut map[..room],
-        );
+fn bands(rt: &impl Print, row: &Row<'_>) -> io::Result<()> {
+    let mut words = [u16::FOUND; 1536];
+    let mut count = 0;
+    let refusal = vobsub_c::vobsub_parse_chg_colcon_payload(row.bytes, &mut words, &mut count);
+    if is_answered(rt, refusal)? {
+        print!(rt; ": words {count}")?;
     }
+    write_bands(rt, &words, count)
 }
 
-fn bands(rt: &impl Print, payload: &[u8]) {
-    let mut words = [FOUND_WORD; 1536];
-    let mut count: usize = 0;
-    let refusal = vobsub_c::vobsub_parse_chg_colcon_payload(payload, &mut words, &mut count);
-    if answered(rt, refusal) {
-        form(rt, b": words @", &[count; 17]);
-    }
-    band_array(rt, &words, count);
-}
-
-fn asked(rt: &impl Print, line: &[u8], bytes: &[u8]) {
-    let a = table::given(line, 0);
-    let b = table::given(line, 1);
-    if starts(line, b"parse_and_decode_spu|") {
-        unit(rt, bytes, a);
-    }
-    if starts(line, b"extract_spu|") {
-        packets(rt, bytes, a, b, table::given(line, 2));
-    }
-    if starts(line, b"parse_idx|") {
-        index(rt, bytes, a, b);
-    }
-    if starts(line, b"pick_cue|") {
-        cue(rt, bytes, a);
-    }
-    if starts(line, b"decode_cue|") {
-        paint(rt, line, bytes);
-    }
-    if starts(line, b"decode_rle_field|") {
-        field(rt, line, bytes, a, b);
-    }
-    if starts(line, b"parse_chg_colcon_payload|") {
-        bands(rt, bytes);
-    }
-}
-
-fn with_bytes(rt: &impl Print, line: &[u8], bytes: &[u8], n: usize) {
-    if n <= bytes.len() {
-        asked(rt, line, &bytes[..n]);
-    }
-}
-
-fn row(rt: &impl Print, line: &[u8]) {
-    let mut bytes = [0; 8192];
-    let n = table::stored(line, 3, &mut bytes);
-    say(rt, table::part(line, b'|', 0));
-    say(rt, b"|");
-    say(rt, table::part(line, b'|', 1));
-    with_bytes(rt, line, &bytes, n);
-    say(rt, b"\n");
-}
-
-// Reads up to the next line end, and answers how many bytes stand before it. A read that fails is the end of input.
-fn next_line(input: &mut impl Read, text: &mut [u8]) -> usize {
-    let mut n = 0;
-    while n < text.len() {
-        let e = n + 1;
-        if input.read(&mut text[n..e]).unwrap_or(0) == 0 {
-            return n;
-        }
-        if text[n] == b'\n' {
-            return n;
-        }
-        n = e;
-    }
-    n
-}
-
-// The rows up to an empty line or the end of input.
-fn rows(rt: &(impl Input + Print), text: &mut [u8]) {
-    let mut input = rt.reader();
-    let mut k: usize = 0;
-    while k < 18446744073709551615 {
-        let n = next_line(&mut input, text);
-        if n == 0 {
-            return;
-        }
-        if n <= text.len() {
-            row(rt, &text[..n]);
-        }
-        k += 1;
+fn answer(rt: &impl Print, row: &Row<'_>) -> io::Result<()> {
+    match table::part(row.line, b'|', 0) {
+        b"parse_and_decode_spu" => unit(rt, row),
+        b"extract_spu" => packets(rt, row),
+        b"parse_idx" => index(rt, row),
+        b"pick_cue" => cue(rt, row),
+        b"decode_cue" => paint(rt, row),
+        b"decode_rle_field" => field(rt, row),
+        b"parse_chg_colcon_payload" => bands(rt, row),
+        _ => Ok(()),
     }
 }
 
 fn main(rt: HostRuntime) {
-    let mut text = [0u8; 65536];
-    rows(&rt, &mut text);
+    run_rows::each_row(&rt, |row| answer(&rt, row));
 }

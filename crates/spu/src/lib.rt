@@ -8,29 +8,24 @@ ghost use Rattle.grammar.specs.Control.{Block};
 ghost use Rattle.grammar.specs.Record.{Told, told, width, height};
 ghost use Rattle.grammar.specs.Picture.{top_end};
 ghost use Rattle.spu_model.specs.Unit.{offsets_of};
-ghost use Rattle.outcome.specs.Outcome.{ok, refuse};
+ghost use Rattle.outcome.specs.Outcome.{ok, answered};
 ghost use Rattle.control_model.specs.Chain.{control_at};
-ghost use Rattle.control_model.specs.Answers.{spu_of};
+ghost use Rattle.control_model.specs.Answers.{spu_of, control_answer};
 ghost use Rattle.rle_model.specs.Answers.{field_answer, nothing};
 ghost use Rattle.spu_model.specs.Unit.{has_bottom, rows_at, unit_at};
-ghost use Rattle.spu_model.specs.Answers.{layout_of, spu_answer, record_given, RowsDecoded, Decoded};
+ghost use Rattle.spu_model.specs.Answers.{bottom_span, layout_of, spu_answer, RowsDecoded, Decoded};
 
-use clock_model::Ticks;
-use control_model::{ControlAnswer, Spu};
-use fields::Span;
-use outcome::{NO_TOP_FIELD, SHORT_PIXELS, word_of};
-use rle_model::{Counts, FieldAnswer};
-use spu_model::{Layout, Record, SpuAnswer};
+use control_model::Spu;
+use outcome::{Refusal, word_of};
+use rle_model::{Counts, Span};
+use spu_model::{Layout, Record};
 
 // The byte before which the top field ends.
 fn ending(control: usize, top: usize, bottom: usize) -> usize
     ensures { result ≡ top_end control (offsets_of top bottom) }
 {
     if top < bottom {
-        if bottom < control {
-            return bottom;
-        }
-        return control;
+        return bottom.min(control);
     }
     control
 }
@@ -39,88 +34,18 @@ fn ending(control: usize, top: usize, bottom: usize) -> usize
 fn has_bottom(control: usize, bottom: usize) -> bool
     ensures { result ≡ has_bottom control bottom }
 {
-    if 0 < bottom {
-        return bottom < control;
-    }
-    false
+    0 < bottom && bottom < control
 }
 
-// The layout of a unit whose control blocks tell `spu`.
-fn laid_out(unit: &[u8], spu: Spu) -> Layout
-    requires { (bs : List Block) × (control_at unit.now ≡ ok bs) × (spu ≡ spu_of (told bs) nothing) }
-    ensures { (result.width ≤ 65536) × (result.height ≤ 65536) × ((bs : List Block) → control_at unit.now ≡ ok bs → result ≡ layout_of unit.now (told bs)) }
+// The bottom field, if there is one.
+fn bottom_field(control: usize, bottom: usize) -> Option<Span>
+    ensures { result ≡ bottom_span control bottom }
 {
-    let width = spu.x2 as usize + 1 - spu.x1 as usize;
-    let height = spu.y2 as usize + 1 - spu.y1 as usize;
-    let end = word_of(unit[0], unit[1]);
-    let control = word_of(unit[2], unit[3]);
-    let top = spu.top_rle_off as usize;
-    let bottom = spu.bot_rle_off as usize;
-    let top_end = ending(control, top, bottom);
-    let shown = has_bottom(control, bottom);
-    Layout {
-        width,
-        height,
-        end,
-        control,
-        top,
-        top_end,
-        bottom,
-        shown,
-    }
-}
-
-// The codes of the rows of a unit whose control blocks tell `spu`, counted.
-// Ruled out: a bottom field at offset 0; a top field that goes on into the bottom field.
-pub fn measure_rows(unit: &[u8], spu: Spu) -> FieldAnswer
-    requires { (bs : List Block) × (control_at unit.now ≡ ok bs) × (spu ≡ spu_of (told bs) nothing) }
-    ensures { (bs : List Block) → control_at unit.now ≡ ok bs → result ≡ field_answer (width (told bs)) (rows_at unit.now (told bs)) }
-{
-    let l = laid_out(unit, spu);
-    if l.end <= l.top {
-        return FieldAnswer::Refused(NO_TOP_FIELD);
-    }
-    fields::measure_fields(
-        unit,
-        Span {
-            from: l.top,
-            to: l.top_end,
-        },
-        Span {
-            from: l.bottom,
-            to: l.control,
-        },
-        l.shown,
-        l.width,
-        l.height,
-    )
-}
-
-// The same rows in the index map, which is as found on a refusal.
-// Ruled out: a row that stays 0 left as found; a refusal after the first pixel is stored.
-pub fn decode_rows(unit: &[u8], spu: Spu, pixels: &mut [u8]) -> FieldAnswer
-    requires { (bs : List Block) × (control_at unit.now ≡ ok bs) × (spu ≡ spu_of (told bs) nothing) × (width (told bs) * height (told bs) ≤ length pixels.old) }
-    ensures { (bs : List Block) → control_at unit.now ≡ ok bs → RowsDecoded unit.now (told bs) pixels.old result pixels.new }
-{
-    let l = laid_out(unit, spu);
-    if l.end <= l.top {
-        return FieldAnswer::Refused(NO_TOP_FIELD);
-    }
-    fields::decode_rle_fields(
-        unit,
-        Span {
-            from: l.top,
-            to: l.top_end,
-        },
-        Span {
-            from: l.bottom,
-            to: l.control,
-        },
-        l.shown,
-        l.width,
-        l.height,
-        pixels,
-    )
+    let span = Span {
+        from: bottom,
+        to: control,
+    };
+    has_bottom(control, bottom).then_some(span)
 }
 
 // The record with what its rows count.
@@ -134,97 +59,125 @@ pub fn with_counts(spu: Spu, counts: Counts) -> Spu
     s
 }
 
-// What a unit gives whose control blocks tell `spu`, with no map.
-fn measure_told(unit: &[u8], spu: Spu) -> SpuAnswer
+// A unit and what its control blocks tell.
+#[derive(Clone, Copy)]
+struct Parsed<'a> {
+    unit: &'a [u8],
+    spu: Spu,
+    ghost read: { ok spu ≡ control_answer unit.now },
+}
+
+impl<'a> Parsed<'a> {
+    // Where the rows stand, and the size of the picture.
+    fn laid_out(&self) -> Layout
+        ensures { (result.width ≤ 65536) × (result.height ≤ 65536) × ((bs : List Block) → control_at self.now.unit.now ≡ ok bs → result ≡ layout_of self.now.unit.now (told bs)) }
+    {
+        let unit = self.unit;
+        let spu = self.spu;
+        let width = spu.x2 as usize + 1 - spu.x1 as usize;
+        let height = spu.y2 as usize + 1 - spu.y1 as usize;
+        let end = word_of(unit[0], unit[1]);
+        let control = word_of(unit[2], unit[3]);
+        let from = spu.top_rle_off as usize;
+        let bottom = spu.bot_rle_off as usize;
+        let to = ending(control, from, bottom);
+        Layout {
+            width,
+            height,
+            end,
+            top: Span { from, to },
+            bottom: bottom_field(control, bottom),
+        }
+    }
+
+    // The codes of its rows, counted.
+    fn measure_rows(&self) -> Result<Counts, Refusal>
+        ensures { (bs : List Block) → control_at self.now.unit.now ≡ ok bs → answered result ≡ field_answer (width (told bs)) (rows_at self.now.unit.now (told bs)) }
+    {
+        let l = self.laid_out();
+        if l.end <= l.top.from {
+            return Err(Refusal::NoTopField);
+        }
+        fields::measure_fields(self.unit, l.top, l.bottom, l.width, l.height)
+    }
+
+    // The same rows in the index map, which is as found on a refusal.
+    fn decode_rows(&self, pixels: &mut [u8]) -> Result<Counts, Refusal>
+        requires { (bs : List Block) × (control_at self.now.unit.now ≡ ok bs) × (width (told bs) * height (told bs) ≤ length pixels.old) }
+        ensures { (bs : List Block) → control_at self.now.unit.now ≡ ok bs → RowsDecoded self.now.unit.now (told bs) pixels.old (answered result) pixels.new }
+    {
+        let l = self.laid_out();
+        if l.end <= l.top.from {
+            return Err(Refusal::NoTopField);
+        }
+        fields::decode_rle_fields(self.unit, l.top, l.bottom, l.width, l.height, pixels)
+    }
+
+    // What it gives with no map.
+    fn measure_told(&self) -> Result<Spu, Refusal>
+        ensures { answered result ≡ spu_answer (unit_at self.now.unit.now) }
+    {
+        bands::unit_bands(self.unit, self.spu.band_words)?;
+        let counts = self.measure_rows()?;
+        Ok(with_counts(self.spu, counts))
+    }
+
+    // What it gives with a map.
+    // Ruled out: a map painted where the bands are too many; a map too short before bands that are too many.
+    fn decode_told(&self, pixels: &mut [u8]) -> Result<Record, Refusal>
+        ensures { Decoded self.now.unit.now pixels.old (answered result) pixels.new }
+    {
+        let bands = bands::unit_bands(self.unit, self.spu.band_words)?;
+        let l = self.laid_out();
+        if pixels.len() < l.width * l.height {
+            return Err(Refusal::ShortPixels);
+        }
+        let counts = self.decode_rows(pixels)?;
+        Ok(Record {
+            spu: with_counts(self.spu, counts),
+            bands,
+        })
+    }
+}
+
+// The codes of the rows of a unit whose control blocks tell `spu`, counted.
+// Ruled out: a bottom field at offset 0; a top field that goes on into the bottom field.
+pub fn measure_rows(unit: &[u8], spu: Spu) -> Result<Counts, Refusal>
     requires { (bs : List Block) × (control_at unit.now ≡ ok bs) × (spu ≡ spu_of (told bs) nothing) }
-    ensures { result ≡ spu_answer (unit_at unit.now) }
+    ensures { (bs : List Block) → control_at unit.now ≡ ok bs → answered result ≡ field_answer (width (told bs)) (rows_at unit.now (told bs)) }
 {
-    let b = bands::unit_bands(unit, spu.band_words);
-    if b.refused != 0 {
-        return SpuAnswer::Refused(b.refused);
-    }
-    match measure_rows(unit, spu) {
-        FieldAnswer::Rows(counts) => SpuAnswer::Shows(with_counts(spu, counts)),
-        FieldAnswer::Refused(number) => SpuAnswer::Refused(number),
-    }
+    let parsed = Parsed { unit, spu };
+    parsed.measure_rows()
+}
+
+// The same rows in the index map, which is as found on a refusal.
+// Ruled out: a row that stays 0 left as found; a refusal after the first pixel is stored.
+pub fn decode_rows(unit: &[u8], spu: Spu, pixels: &mut [u8]) -> Result<Counts, Refusal>
+    requires { (bs : List Block) × (control_at unit.now ≡ ok bs) × (spu ≡ spu_of (told bs) nothing) × (width (told bs) * height (told bs) ≤ length pixels.old) }
+    ensures { (bs : List Block) → control_at unit.now ≡ ok bs → RowsDecoded unit.now (told bs) pixels.old (answered result) pixels.new }
+{
+    let parsed = Parsed { unit, spu };
+    parsed.decode_rows(pixels)
 }
 
 // A unit's record with what its rows count, with no map and without the words of its bands.
 // Ruled out: a record of a unit whose rows are not all there; the number of one field's codes; a record of more than 32
 // bands.
-pub fn measure_spu(unit: &[u8]) -> SpuAnswer
-    ensures { (result ≡ spu_answer (unit_at unit.now)) × Measures unit.now result }
+pub fn measure_spu(unit: &[u8]) -> Result<Spu, Refusal>
+    ensures { (answered result ≡ spu_answer (unit_at unit.now)) × Measures unit.now (answered result) }
 {
-    match control::parse_control(unit) {
-        ControlAnswer::Tells(spu) => measure_told(unit, spu),
-        ControlAnswer::Refused(number) => SpuAnswer::Refused(number),
-    }
-}
-
-// A refusal: all else is 0.
-fn refusal(number: u8) -> Record
-    ensures { result ≡ record_given (refuse number) }
-{
-    Record {
-        refused: number,
-        spu: Spu {
-            x1: 0,
-            y1: 0,
-            x2: 0,
-            y2: 0,
-            palette_sel: 0,
-            alpha: 0,
-            started: false,
-            start_delay_raw: Ticks(0),
-            stopped: false,
-            stop_delay_raw: Ticks(0),
-            forced_display: false,
-            top_rle_off: 0,
-            bot_rle_off: 0,
-            saw_chg_colcon: false,
-            band_words: 0,
-            codes: 0,
-            clipped: 0,
-        },
-        bands: [0u16; 1536],
-    }
-}
-
-// The rest of a unit whose control blocks tell `spu`.
-// Ruled out: a map painted where the bands are too many; a map too short before bands that are too many.
-fn decode_told(unit: &[u8], spu: Spu, pixels: &mut [u8]) -> Record
-    requires { (bs : List Block) × (control_at unit.now ≡ ok bs) × (spu ≡ spu_of (told bs) nothing) }
-    ensures { Decoded unit.now pixels.old result pixels.new }
-{
-    let b = bands::unit_bands(unit, spu.band_words);
-    if b.refused != 0 {
-        return refusal(b.refused);
-    }
-    let l = laid_out(unit, spu);
-    if pixels.len() < l.width * l.height {
-        return refusal(SHORT_PIXELS);
-    }
-    match decode_rows(unit, spu, pixels) {
-        FieldAnswer::Rows(counts) => {
-            let words = b.words;
-            Record {
-                refused: 0,
-                spu: with_counts(spu, counts),
-                bands: words,
-            }
-        }
-        FieldAnswer::Refused(number) => refusal(number),
-    }
+    let spu = control::parse_control(unit)?;
+    let parsed = Parsed { unit, spu };
+    parsed.measure_told()
 }
 
 // A unit's record with its bands in it, and its picture as colour numbers in the front of `pixels`, which is as found
 // on a refusal.
 // Ruled out: rows painted before the last is known to be whole; a row without codes left as found instead of 0.
-pub fn parse_and_decode_spu(unit: &[u8], pixels: &mut [u8]) -> Record
-    ensures { Decoded unit.now pixels.old result pixels.new × Says unit.now pixels.old pixels.new result }
+pub fn parse_and_decode_spu(unit: &[u8], pixels: &mut [u8]) -> Result<Record, Refusal>
+    ensures { Decoded unit.now pixels.old (answered result) pixels.new × Says unit.now pixels.old pixels.new (answered result) }
 {
-    match control::parse_control(unit) {
-        ControlAnswer::Tells(spu) => decode_told(unit, spu, pixels),
-        ControlAnswer::Refused(number) => refusal(number),
-    }
+    let spu = control::parse_control(unit)?;
+    let parsed = Parsed { unit, spu };
+    parsed.decode_told(pixels)
 }

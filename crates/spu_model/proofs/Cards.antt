@@ -4,7 +4,7 @@ use mathlib.Core.Path.{◌≡◌, refl}
 use mathlib.Core.Bool.{false}
 use mathlib.Core.List.{List, [], ◌∷◌}
 use lib.ListN.{get_or}
-use Rattle.outcome.specs.Outcome.{ok, refuse, refusal_of, short_pixels}
+use Rattle.outcome.specs.Outcome.{Res, ok, refuse, refusal_of, short_pixels}
 use Rattle.outcome.specs.Lists.{list_fuel, list_from}
 use Rattle.grammar.specs.Bytes.{word, nibble, nibbles}
 use Rattle.grammar.specs.Bands.{entry_words, band_words}
@@ -23,7 +23,7 @@ use Rattle.control_model.specs.Few.{few_at}
 use Rattle.control_model.specs.Answers.{spu_of}
 use Rattle.spu_model.specs.Unit.{has_bottom, rows_at, unit_at, unit_in}
 use Rattle.spu_model.specs.Answers.{spu_answer, record_given, unit_map}
-use Rattle.spu_model.specs.declared.SpuAnswer.TheVariants as SpuAnswer
+use Rattle.spu_model.specs.declared.Record.{Record}
 
 -- no bottom field at offset 0
 pub no-bottom : has_bottom 9 0 ≡ false
@@ -35,7 +35,7 @@ blocks = record { place = 0; delay = 0; next = 0; commands = record { place = 4;
 
 pub two_codes :
     spu_answer (ok (record { blocks = blocks; rows = (code 0 1 5 ∷ code 1 1 9 ∷ []) ∷ [] }))
-    ≡ SpuAnswer.Shows (spu_of (told blocks) (record { codes = 2; clipped = 1 }))
+    ≡ ok (spu_of (told blocks) (record { codes = 2; clipped = 1 }))
 unfolding codes_in clipped_in clipped_row overshoots paints told commands_of commands_in first_delay last_delay last_numbers stands all_bands
 two_codes = refl
 
@@ -54,8 +54,12 @@ one_band =
     0x00 ∷ 0x17 ∷ 0x00 ∷ 0x05 ∷ 0x70 ∷ 0x00 ∷ 0x00 ∷ 0x00 ∷ 0x05 ∷ 0x07 ∷ 0x00 ∷ 0x0C ∷ 0x00 ∷ 0x03 ∷ 0x10 ∷ 0x04
     ∷ 0x00 ∷ 0x05 ∷ 0x01 ∷ 0x23 ∷ 0x45 ∷ 0x67 ∷ 0xFF ∷ []
 
+abbrev words_in : Res Record → List ℕ
+words_in (ok r) = r.bands
+words_in (refuse n) = []
+
 abbrev at : ℕ → ℕ
-at i = get_or (record_given (unit_in one_band 1)).bands i 9
+at i = get_or (words_in (record_given (unit_in one_band 1))) i 9
 
 pub one_band-record : at 0 ∷ at 1 ∷ at 2 ∷ at 3 ∷ at 4 ∷ at 5 ∷ at 6 ∷ at 1535 ∷ at 1536 ∷ []
     ≡ 3 ∷ 4 ∷ 1 ∷ 5 ∷ 0x0123 ∷ 0x4567 ∷ 0 ∷ 0 ∷ 9 ∷ []

@@ -9,7 +9,7 @@ use lib.Dec.{leb}
 use lib.ListN.{length}
 use borrow.Author.Tests.{le-leb}
 use Rattle.outcome.specs.Outcome.{Res, ok, refuse, RefusedWith, many_bands, short_pixels}
-use Rattle.outcome.proofs.Laws.{le_or_lt}
+use Rattle.outcome.proofs.Laws.{le_or_lt, ok-not-refuse, refuse-injective}
 use Rattle.outcome.proofs.Numbers.{check-numbered, map_res-numbered}
 use Rattle.grammar.specs.Bands.{most_bands}
 use Rattle.grammar.specs.Control.{Block, IsChain}
@@ -39,14 +39,14 @@ module _ (u : List ℕ) (bs : List Block) (chain : IsChain u bs) (wide : (told b
       (check-numbered Other (leb (width (told bs) * height (told bs)) n) short_pixels _ (λ q. omega arith)
       (map_res-numbered Other (listed_unit bs) (rows_at u (told bs)) (rows-with Other (λ q. omega arith) (λ q. omega arith) u (told bs))))
 
-  pub unit-many : (px : List ℕ) (r : Record) (px' : List ℕ) → Decoded u px r px'
-      → (r.refused ≡ many_bands) ↔ (most_bands < length (told bs).bands)
+  pub unit-many : (px : List ℕ) (r : Res Record) (px' : List ℕ) → Decoded u px r px'
+      → (r ≡ refuse many_bands) ↔ (most_bands < length (told bs).bands)
   unfolding unit_in
-  unit-many px r px' d = (λ e. ⊎_elim (λ h. absurd (go (unit_in u (length px)) (others (length px) h) d.answer e)) (λ h. h) (le_or_lt (length (told bs).bands) most_bands), from)
+  unit-many px r px' d = (λ e. ⊎_elim (λ h. absurd (go (unit_in u (length px)) (others (length px) h) (sym e ∙ d.answer))) (λ h. h) (le_or_lt (length (told bs).bands) most_bands), from)
     where
-      go : (x : Res ListedUnit) → RefusedWith Other x → r ≡ record_given x → r.refused ≡ many_bands → ⊥
-      go (ok l) o f e = let z : r.refused ≡ 0 = ap (λ (a : Record). a.refused) f in omega arith
-      go (refuse n) o f e = o (sym (ap (λ (a : Record). a.refused) f) ∙ e)
+      go : (x : Res ListedUnit) → RefusedWith Other x → refuse many_bands ≡ record_given x → ⊥
+      go (ok l) o f = ok-not-refuse f
+      go (refuse n) o f = o (sym (refuse-injective f))
 
-      from : most_bands < length (told bs).bands → r.refused ≡ many_bands
-      from h = let q : unit_in u (length px) ≡ refuse many_bands = rw (few_refused u bs control-is h) in ap (λ (a : Record). a.refused) (d.answer ∙ ap record_given q)
+      from : most_bands < length (told bs).bands → r ≡ refuse many_bands
+      from h = let q : unit_in u (length px) ≡ refuse many_bands = rw (few_refused u bs control-is h) in d.answer ∙ ap record_given q

@@ -1,14 +1,14 @@
 -- What the layer claims, in the grammar's words; `proofs/Claim.antt` has it kept. Assumes nothing: these are definitions.
-use Rattle.std.specs.Prelude.{ℕ, ◌*◌, ◌≤◌, ◌≡◌, false, ◌↔◌, List, length, replicate}
+use Rattle.std.specs.Prelude.{ℕ, ◌*◌, ◌≤◌, ◌≡◌, ◌↔◌, List, length}
 use Rattle.std.proofs.lemmas.List.Edits.{sets}
-use Rattle.grammar.specs.Bands.{band_words, most_words, record_words}
+use Rattle.outcome.specs.Outcome.{Res, ok, refuse, IsOk}
+use Rattle.grammar.specs.Bands.{band_words, record_words}
 use Rattle.grammar.specs.Rows.{Code}
 use Rattle.grammar.specs.Pixels.{index_map, codes_in, clipped_in}
 use Rattle.grammar.specs.Record.{Told, told, given, delay_of, width, height}
 use Rattle.grammar.specs.Picture.{ListedUnit, IsUnit}
 use Rattle.control_model.specs.declared.Spu.{Spu}
 use Rattle.spu_model.specs.declared.Record.{Record}
-use Rattle.spu_model.specs.declared.SpuAnswer.{SpuAnswer}
 
 -- a map of n pixels holds what is listed
 abbrev pub LongEnough : ListedUnit → ℕ → Type 0
@@ -34,26 +34,6 @@ pub record Recorded (t : Told) (rs : List (List Code)) (s : Spu) : Type 0 where
   pub codes : s.codes ≡ codes_in rs
   pub clipped : s.clipped ≡ clipped_in (width t) rs
 
--- what stands beside a refusal: 0 everywhere
-pub record Blank (s : Spu) : Type 0 where
-  pub x1 : s.x1 ≡ 0
-  pub y1 : s.y1 ≡ 0
-  pub x2 : s.x2 ≡ 0
-  pub y2 : s.y2 ≡ 0
-  pub selected : s.palette_sel ≡ 0
-  pub alpha : s.alpha ≡ 0
-  pub started : s.started ≡ false
-  pub start_delay : s.start_delay_raw.0 ≡ 0
-  pub stopped : s.stopped ≡ false
-  pub stop_delay : s.stop_delay_raw.0 ≡ 0
-  pub forced : s.forced_display ≡ false
-  pub top : s.top_rle_off ≡ 0
-  pub bottom : s.bot_rle_off ≡ 0
-  pub changed : s.saw_chg_colcon ≡ false
-  pub band_words : s.band_words ≡ 0
-  pub codes : s.codes ≡ 0
-  pub clipped : s.clipped ≡ 0
-
 -- the record r and the map after it hold what is listed: all words of the record are those of the listed bands, and
 -- then 0
 pub record GivesUnit (l : ListedUnit) (px : List ℕ) (r : Record) (px' : List ℕ) : Type 0 where
@@ -61,15 +41,13 @@ pub record GivesUnit (l : ListedUnit) (px : List ℕ) (r : Record) (px' : List �
   pub bands : r.bands ≡ record_words (told l.blocks).bands
   pub pixels : px' ≡ sets px 0 (index_map (width (told l.blocks)) l.rows)
 
--- a record is given exactly where a unit is listed and the map is long enough; a refusal leaves the map as found, and
--- has 0 beside it
-pub record Says (u px px' : List ℕ) (r : Record) : Type 0 where
-  pub exactly_when : (r.refused ≡ 0) ↔ ((l : ListedUnit) × IsUnit u l × LongEnough l (length px))
-  pub same : (l : ListedUnit) → IsUnit u l → r.refused ≡ 0 → GivesUnit l px r px'
-  pub as_found : (r.refused ≡ 0 → ⊥) → px' ≡ px
-  pub blank : (r.refused ≡ 0 → ⊥) → Blank r.spu × (r.bands ≡ replicate most_words 0)
+-- a record is given exactly where a unit is listed and the map is long enough; a refusal leaves the map as found
+pub record Says (u px px' : List ℕ) (r : Res Record) : Type 0 where
+  pub exactly_when : IsOk r ↔ ((l : ListedUnit) × IsUnit u l × LongEnough l (length px))
+  pub same : (l : ListedUnit) → IsUnit u l → (v : Record) → r ≡ ok v → GivesUnit l px v px'
+  pub as_found : (IsOk r → ⊥) → px' ≡ px
 
 -- of a record without the bands, with no map: it is of a unit that is listed; a refusal says that none is
-abbrev pub Measures : List ℕ → SpuAnswer → Type 0
-Measures u (SpuAnswer.Shows s) = (l : ListedUnit) × IsUnit u l × Recorded (told l.blocks) l.rows s
-Measures u (SpuAnswer.Refused n) = (l : ListedUnit) → IsUnit u l → ⊥
+abbrev pub Measures : List ℕ → Res Spu → Type 0
+Measures u (ok s) = (l : ListedUnit) × IsUnit u l × Recorded (told l.blocks) l.rows s
+Measures u (refuse n) = (l : ListedUnit) → IsUnit u l → ⊥

@@ -7,29 +7,23 @@ use mathlib.Core.Bool.{false}
 use mathlib.Core.Logic.{⊎_elim}
 use mathlib.Core.List.{List, [], ◌∷◌}
 use lib.ListN.{length, take, drop, get_or, set, length-drop, length-set, drop_of_length-le}
-use lib.Seq.{sets, take_all, drop-drop, drop-cons}
+use lib.Seq.{sets, drop-drop, drop-cons}
+use Rattle.std.proofs.lemmas.List.{take_rest, get_or-take, get_or-drop}
 use lib.Dec.{eqb}
 use borrow.Author.Tests.{eq-eqb, ne_eqb}
 use Rattle.outcome.proofs.Laws.{le_or_lt}
 use Rattle.grammar.specs.IndexParts.{unlike}
 use Rattle.idx_numbers_model.specs.Parts.{front, rest}
-use Rattle.idx_numbers_model.specs.Numbers.{unsigned}
-use Rattle.idx_numbers_model.specs.Answers.{value_in}
-use Rattle.idx_numbers_model.specs.declared.Number.{Number}
-use Rattle.idx_numbers_model.specs.declared.Number.TheVariants.{Is, Bad}
 use Rattle.idx_numbers_model.proofs.Loops.{drop-front, front-le, take-front}
-use Rattle.table.specs.Table.{part_at, or_zero, number_of, given_at, hex_digit, bytes_of, Written, Stored}
+use Rattle.table.specs.Table.{part_at, number_of, given_at, hex_digit, bytes_of, Written, Stored}
 use Rattle.table.specs.declared.Item.{Item}
 
 -- ---- Parts
 
 -- m is the mark; n bytes stand before the next one from a place on
 module _ (m : ℕ) (s : List ℕ) (from n : ℕ) (h : from ≤ length s) (e : n ≡ length (front (unlike m) (take (length s - from) (drop from s)))) where
-  left_is : take (length s - from) (drop from s) ≡ drop from s
-  left_is = take_all (length s - from) (drop from s) (omega (arith, length-drop from s))
-
   before-is : n ≡ length (front (unlike m) (drop from s))
-  before-is = e ∙ ap (λ (l : List ℕ). length (front (unlike m) l)) left_is
+  before-is = e ∙ ap (λ (l : List ℕ). length (front (unlike m) l)) (take_rest s from)
 
   pub before-inside : from + n ≤ length s
   before-inside = omega (arith, before-is, front-le (unlike m) (drop from s), length-drop from s)
@@ -55,18 +49,10 @@ module _ (m : ℕ) (s : List ℕ) (from n : ℕ) (h : from ≤ length s) (e : n 
   pub part_end : (left : ℕ) → left ≡ 0 → take n (take (length s - from) (drop from s)) ≡ part_at m left (drop from s)
   unfolding part_at
   part_end left q =
-      rw q (ap (take n) left_is ∙ ap (λ (k : ℕ). take k (drop from s)) before-is ∙ take-front (unlike m) (drop from s))
+      rw q (ap (take n) (take_rest s from) ∙ ap (λ (k : ℕ). take k (drop from s)) before-is ∙ take-front (unlike m) (drop from s))
 
   pub part-long : n ≡ length (take n (take (length s - from) (drop from s)))
   part-long = e ∙ sym (rw (e, take-front (unlike m) (take (length s - from) (drop from s))))
-
--- ---- Numbers
-
-pub number_is : (s : List ℕ) (r : Number) → value_in r ≡ unsigned 10 18446744073709551615 s → (v : ℕ) → r ≡ Is v → v ≡ number_of s
-number_is s r e v q = ap or_zero (sym (ap value_in q) ∙ e)
-
-pub number-none : (s : List ℕ) (r : Number) → value_in r ≡ unsigned 10 18446744073709551615 s → r ≡ Bad → 0 ≡ number_of s
-number-none s r e q = ap or_zero (sym (ap value_in q) ∙ e)
 
 -- ---- Bytes
 
@@ -90,14 +76,21 @@ module _ (s : List ℕ) (i : ℕ) (h : i < length s) where
   here : drop i s ≡ get_or s i 0 ∷ drop (i + 1) s
   here = rw add-one (drop-cons s i 0 h)
 
+  -- byte k of the part that is looked at
+  left_at : (k : ℕ) → k < length s - i → get_or (take (length s - i) (drop i s)) k 0 ≡ get_or s (i + k) 0
+  left_at k f = get_or-take (length s - i) (drop i s) k 0 f ∙ get_or-drop i s k 0
+
+  pub left_first : get_or (take (length s - i) (drop i s)) 0 0 ≡ get_or s i 0
+  left_first = let z : i + 0 ≡ i = omega arith in left_at 0 (omega arith) ∙ ap (λ (k : ℕ). get_or s k 0) z
+
   pub written-other : (r : Item) → (get_or s i 0 ≡ 92 → ⊥) → r ≡ record { byte = get_or s i 0; next = i + 1 } → Written s i r
   written-other r f q = rw q (record { first = rw here (plain_other (get_or s i 0) (drop (i + 1) s) (ne_eqb _ 92 f)); past = omega arith; inside = omega arith })
 
   pub written-short : (r : Item) → length s - i < 3 → r ≡ record { byte = get_or s i 0; next = i + 1 } → Written s i r
   written-short r f q = rw q (record { first = rw here (plain-short (get_or s i 0) (drop (i + 1) s) (omega (arith, length-drop (i + 1) s))); past = omega arith; inside = omega arith })
 
-  pub written-hex : (r : Item) (b : ℕ) → get_or s i 0 ≡ 92 → 3 ≤ length s - i → b ≡ hex_digit (get_or s (i + 1) 0) * 16 + hex_digit (get_or s (i + 2) 0)
-      → r ≡ record { byte = b; next = i + 3 } → Written s i r
+  pub written-hex : (r : Item) (b : ℕ) → get_or s i 0 ≡ 92 → 3 ≤ length s - i
+      → b ≡ hex_digit (get_or (take (length s - i) (drop i s)) 1 0) * 16 + hex_digit (get_or (take (length s - i) (drop i s)) 2 0) → r ≡ record { byte = b; next = i + 3 } → Written s i r
   written-hex r b f l e q =
       let z1 : suc (i + 1) ≡ i + 2 = omega arith in
       let z2 : suc (i + 2) ≡ i + 3 = omega arith in
@@ -106,7 +99,7 @@ module _ (s : List ℕ) (i : ℕ) (h : i < length s) where
       let g1 : drop (i + 1) s ≡ get_or s (i + 1) 0 ∷ drop (i + 2) s = drop-cons s (i + 1) 0 h1 ∙ ap (λ (k : ℕ). get_or s (i + 1) 0 ∷ drop k s) z1 in
       let g2 : drop (i + 2) s ≡ get_or s (i + 2) 0 ∷ drop (i + 3) s = drop-cons s (i + 2) 0 h2 ∙ ap (λ (k : ℕ). get_or s (i + 2) 0 ∷ drop k s) z2 in
       let all : drop i s ≡ get_or s i 0 ∷ get_or s (i + 1) 0 ∷ get_or s (i + 2) 0 ∷ drop (i + 3) s = here ∙ ap (λ (t : List ℕ). get_or s i 0 ∷ t) (g1 ∙ ap (λ (t : List ℕ). get_or s (i + 1) 0 ∷ t) g2) in
-      rw (q, e) (record { first = ap bytes_of all ∙ three (get_or s i 0) (get_or s (i + 1) 0) (get_or s (i + 2) 0) (drop (i + 3) s) f; past = omega arith; inside = omega arith })
+      rw (q, e, left_at 1 (omega arith), left_at 2 (omega arith)) (record { first = ap bytes_of all ∙ three (get_or s i 0) (get_or s (i + 1) 0) (get_or s (i + 2) 0) (drop (i + 3) s) f; past = omega arith; inside = omega arith })
 
 -- a turn: what is still to be stored, behind what was stored
 pub record Storing (s out₀ : List ℕ) (i n : ℕ) (out : List ℕ) : Type 0 where

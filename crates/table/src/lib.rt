@@ -2,15 +2,14 @@
 // writes. A byte is written as itself, or as a backslash and two hexadecimal digits.
 #![tactic(auto)]
 
-ghost use Rattle.std.specs.Prelude.{◌≡◌, ◌+◌, ◌*◌, ◌<◌, length, set};
+ghost use Rattle.std.specs.Prelude.{◌≡◌, ◌+◌, ◌*◌, ◌<◌, length};
 ghost use Rattle.table.specs.Table.{part_at, number_of, given_at, hex_digit, Written, Stored};
 
-use idx_numbers::{parse_decimal, until};
-use idx_numbers_model::Number;
-use outcome::lesser;
+use idx_numbers::{unsigned, until};
+use outcome::{lesser, put};
 
 // A byte that a text writes, and the place after what writes it.
-#[derive(Clone, Copy)]
+#[derive(Clone, Copy, Debug, PartialEq, Eq)]
 struct Item {
     byte: u8,
     next: usize,
@@ -22,11 +21,9 @@ pub fn part(s: &[u8], mark: u8, k: usize) -> &[u8]
     ensures { result.now ≡ part_at mark k s.now }
 {
     let mut from = 0;
-    let mut left = k;
-    while 0 < left {
+    for _ in 0..k {
         let n = until(&s[from..], mark);
         from = lesser(from + n + 1, s.len());
-        left -= 1;
     }
     let m = &s[from..];
     let n = until(m, mark);
@@ -38,20 +35,10 @@ pub fn part(s: &[u8], mark: u8, k: usize) -> &[u8]
 pub fn number(s: &[u8]) -> usize
     ensures { result ≡ number_of s.now }
 {
-    match parse_decimal(s, 1844674407370955161, 5) {
-        Number::Is(v) => v as usize,
-        Number::Bad => 0,
-    }
+    unsigned::<10>(s, 1844674407370955161, 5).unwrap_or(0) as usize
 }
 
-fn put(out: &mut [u8], at: usize, b: u8)
-    ensures { out.new ≡ set out.old at b }
-{
-    if at < out.len() {
-        out[at] = b;
-    }
-}
-
+// A sum and no `match`, since the definition has an answer for each byte, a digit or none.
 fn hex_digit(c: u8) -> u8
     ensures { result ≡ hex_digit c }
 {
@@ -69,21 +56,20 @@ fn written(s: &[u8], i: usize) -> Item
     requires { i < length s.now }
     ensures { Written s.now i result }
 {
-    let b = s[i];
-    let next = i + 1;
-    if b != 92 {
-        return Item { byte: b, next };
-    }
-    if s.len() - i < 3 {
-        return Item { byte: b, next };
-    }
-    Item {
-        byte: hex_of(s[i + 1], s[i + 2]),
-        next: i + 3,
+    match &s[i..] {
+        [b'\\', a, b, ..] => Item {
+            byte: hex_of(*a, *b),
+            next: i + 3,
+        },
+        _ => Item {
+            byte: s[i],
+            next: i + 1,
+        },
     }
 }
 
-// The bytes that s writes, stored from the front of `out` on as far as there is room; answers their number.
+// The bytes that s writes, stored from the front of `out` on as far as there is room; answers their number. Each turn goes on behind
+// what it read.
 // Ruled out: a backslash stored with its digits; bytes stored past the room.
 pub fn bytes(s: &[u8], out: &mut [u8]) -> usize
     ensures { Stored s.now out.old result out.new }

@@ -1,7 +1,7 @@
 -- What the exported functions return and leave, in the words of the layers: the number of a refusal, 0 only where there is none (`returned`), and
 -- the last content of all that was lent. Assumes nothing: these are definitions.
-use Rattle.std.specs.Prelude.{ℕ, ◌*◌, ◌≤◌, ◌<◌, min, ◌≡◌, List, [], ◌∷◌, map, ◌↔◌, cond, eqb, ℤ, length, take}
-use Rattle.std.proofs.Math.Option.{some}
+use Rattle.std.specs.Prelude.{ℕ, ◌*◌, ◌≤◌, ◌<◌, min, ◌≡◌, List, [], ◌∷◌, map, ◌↔◌, cond, ℤ, length, take}
+use Rattle.std.specs.Prelude.{Some as some}
 use Rattle.std.proofs.lemmas.List.Edits.{sets}
 use Rattle.outcome.specs.Outcome.{Res, ok, refuse, listed, listed_by, refusal_of, Returned, no_band_list, many_bands}
 use Rattle.grammar.specs.Bands.{Band, band_words, most_bands, record_words}
@@ -10,7 +10,6 @@ use Rattle.grammar.specs.Pixels.{index_map, codes_in, clipped_in}
 use Rattle.grammar.specs.Picture.{ListedUnit, IsUnit}
 use Rattle.bands_model.specs.Answers.{count_of, stored, array_after}
 use Rattle.bands_model.specs.Claim.{PayloadBands, TooMany}
-use Rattle.bands_model.specs.declared.BandAnswer.{BandAnswer}
 use Rattle.grammar.specs.Index.{ListedText, IsText}
 use Rattle.grammar.specs.IndexCues.{Cue, cues_of, cue_at, palette_of, has_palette, display_size, duration_of}
 use Rattle.grammar.specs.Packets.{Packet, stream_id}
@@ -18,41 +17,29 @@ use Rattle.grammar.specs.Streams.{Walk, Alike}
 use Rattle.ps_model.specs.OnePacket.{body_at}
 use Rattle.ps_model.specs.Unit.{stream_unit}
 use Rattle.ps_model.specs.Answers.{unit_given, unit_stored}
-use Rattle.ps_model.specs.declared.UnitAnswer.{UnitAnswer}
+use Rattle.ps_model.specs.declared.UnitAt.{UnitAt}
 use Rattle.rle_model.specs.Field.{decoded, paint_field}
 use Rattle.rle_model.specs.Answers.{field_answer}
-use Rattle.rle_model.specs.declared.Counts.{Counts}
-use Rattle.rle_model.specs.declared.FieldAnswer.{FieldAnswer}
 use Rattle.idx_model.specs.Text.{idx_of}
 use Rattle.idx_model.specs.Answers.{idx_with, idx_answer, starts_of, positions_of, or_zero, pick_of, cue_answer}
-use Rattle.idx_model.specs.declared.IdxAnswer.{IdxAnswer}
-use Rattle.idx_model.specs.declared.CueAnswer.{CueAnswer}
 use Rattle.demo_model.specs.Unit.{demo_at}
 use Rattle.demo_model.specs.Answers.{demo_given}
 use Rattle.demo_model.specs.Claim.{RoundTrip}
-use Rattle.demo_model.specs.declared.DemoAnswer.{DemoAnswer}
 use Rattle.spu_model.specs.Unit.{unit_in}
 use Rattle.spu_model.specs.Answers.{record_given, unit_map}
 use Rattle.spu_model.specs.Claim.{LongEnough}
-use Rattle.spu_model.specs.declared.Record.{Record}
 use Rattle.grammar.specs.Record.{Told, told, given, delay_of, width}
 use Rattle.grammar.specs.Reading.{Wanted, wanted_id, Reading, IsReading, shown}
 use Rattle.clock_model.specs.Answers.{time_or0}
 use Rattle.vobsub_model.specs.Call.{Lent, found_for, reading_in}
 use Rattle.vobsub_model.specs.Answers.{canvas_answer, scratch_of, pixels_of, painted_of}
 use Rattle.vobsub_model.specs.Claim.{Room, Exactly}
-use Rattle.vobsub_model.specs.declared.CanvasAnswer.{CanvasAnswer}
 use Rattle.vobsub_numbers.specs.Numbers.{spu_numbers, idx_numbers, cue_numbers, shown_numbers, shown_times}
 
--- the refusal of an answer, 0 where there is none
-abbrev pub band_refusal : BandAnswer → ℕ
-band_refusal (BandAnswer.Words n) = 0
-band_refusal (BandAnswer.Refused k) = k
-
--- the number of words, or the number that was there
-abbrev pub band_count : BandAnswer → ℕ → ℕ
-band_count (BandAnswer.Words n) before = n
-band_count (BandAnswer.Refused k) before = before
+-- what an answer has, or what was there
+abbrev pub or_before : {A B : Type 0} → (A → B) → Res A → B → B
+or_before f (ok a) before = f a
+or_before f (refuse n) before = before
 
 -- what is stored is what is listed of the payload: all words of the array, and how many are used (FORMAT 4.5)
 pub record PayloadTold (bs : List Band) (r : ℕ) (bands : List ℕ) (count : ℕ) : Type 0 where
@@ -61,9 +48,9 @@ pub record PayloadTold (bs : List Band) (r : ℕ) (bands : List ℕ) (count : �
   pub count_is : count ≡ length (band_words bs)
 
 pub record BandsGiven (payload bands : List ℕ) (count r : ℕ) (bands' : List ℕ) (count' : ℕ) : Type 0 where
-  pub refusal : r ≡ band_refusal (count_of 0 (stored payload))
+  pub refusal : r ≡ refusal_of (count_of 0 (stored payload))
   pub returned : Returned (stored payload) r
-  pub counted : count' ≡ band_count (count_of 0 (stored payload)) count
+  pub counted : count' ≡ or_before (λ n. n) (count_of 0 (stored payload)) count
   pub stores : bands' ≡ array_after bands (stored payload)
   pub as_found : (r ≡ 0 → ⊥) → (bands' ≡ bands) × (count' ≡ count)
   pub payload_told : (bs : List Band) → PayloadBands payload bs → length bs ≤ most_bands
@@ -71,28 +58,20 @@ pub record BandsGiven (payload bands : List ℕ) (count r : ℕ) (bands' : List 
   pub too_many : TooMany payload → r ≡ many_bands
   pub unlisted : ((bs : List Band) → PayloadBands payload bs → ⊥) → r ≡ no_band_list
 
-abbrev pub unit_refusal : UnitAnswer → ℕ
-unit_refusal (UnitAnswer.Bare n) = 0
-unit_refusal (UnitAnswer.Joined n) = 0
-unit_refusal (UnitAnswer.Refused k) = k
+abbrev pub unit_length : UnitAt → ℕ
+unit_length (UnitAt.Bare n) = n
+unit_length (UnitAt.Joined n) = n
 
--- the unit's length, or the number that was there
-abbrev pub unit_length : UnitAnswer → ℕ → ℕ
-unit_length (UnitAnswer.Bare n) before = n
-unit_length (UnitAnswer.Joined n) before = n
-unit_length (UnitAnswer.Refused k) before = before
-
--- 1 for a unit in scratch, 0 for one in the file, or the number that was there
-abbrev pub unit_joined : UnitAnswer → ℕ → ℕ
-unit_joined (UnitAnswer.Bare n) before = 0
-unit_joined (UnitAnswer.Joined n) before = 1
-unit_joined (UnitAnswer.Refused k) before = before
+-- 1 for a unit in scratch, 0 for one in the file
+abbrev pub unit_joined : UnitAt → ℕ
+unit_joined (UnitAt.Bare n) = 0
+unit_joined (UnitAt.Joined n) = 1
 
 pub record UnitExtracted (file : List ℕ) (position stream : ℕ) (scratch : List ℕ) (before joined r : ℕ) (scratch' : List ℕ) (after joined' : ℕ) : Type 0 where
-  pub refusal : r ≡ unit_refusal (unit_given (stream_unit stream file position (length scratch)))
+  pub refusal : r ≡ refusal_of (unit_given (stream_unit stream file position (length scratch)))
   pub returned : Returned (stream_unit stream file position (length scratch)) r
-  pub long : after ≡ unit_length (unit_given (stream_unit stream file position (length scratch))) before
-  pub where_is : joined' ≡ unit_joined (unit_given (stream_unit stream file position (length scratch))) joined
+  pub long : after ≡ or_before unit_length (unit_given (stream_unit stream file position (length scratch))) before
+  pub where_is : joined' ≡ or_before unit_joined (unit_given (stream_unit stream file position (length scratch))) joined
   pub stores : scratch' ≡ sets scratch 0 (unit_stored (stream_unit stream file position (length scratch)))
 
 -- two calls return and leave the same
@@ -110,31 +89,17 @@ UnitUndisturbed file position stream scratch before joined r scratch' after join
     → (t : ℕ) (scratch'' : List ℕ) (after'' joined'' : ℕ) → UnitExtracted other position stream scratch before joined t scratch'' after'' joined''
     → SameExtracted r t scratch' scratch'' after after'' joined' joined''
 
--- the place of a body, or the number that was there
-abbrev pub body_place : Res ℕ → ℕ → ℕ
-body_place (ok b) before = b
-body_place (refuse k) before = before
-
 pub record BodyFound (pes : List ℕ) (before r after : ℕ) : Type 0 where
   pub refusal : r ≡ refusal_of (body_at pes 0 (length pes))
   pub returned : Returned (body_at pes 0 (length pes)) r
-  pub place : after ≡ body_place (body_at pes 0 (length pes)) before
-
-abbrev pub field_refusal : FieldAnswer → ℕ
-field_refusal (FieldAnswer.Rows n) = 0
-field_refusal (FieldAnswer.Refused k) = k
-
--- a number of what the rows count, or the number that was there
-abbrev pub field_number : (Counts → ℕ) → FieldAnswer → ℕ → ℕ
-field_number number (FieldAnswer.Rows n) before = number n
-field_number number (FieldAnswer.Refused k) before = before
+  pub place : after ≡ or_before (λ b. b) (body_at pes 0 (length pes)) before
 
 pub record FieldDecoded (field : List ℕ) (w h start : ℕ) (pixels : List ℕ) (codes clipped r : ℕ) (pixels' : List ℕ)
     (codes' clipped' : ℕ) : Type 0 where
-  pub refusal : r ≡ field_refusal (field_answer w (decoded field w h start pixels))
+  pub refusal : r ≡ refusal_of (field_answer w (decoded field w h start pixels))
   pub returned : Returned (decoded field w h start pixels) r
-  pub codes_are : codes' ≡ field_number (λ n. n.codes) (field_answer w (decoded field w h start pixels)) codes
-  pub clipped_are : clipped' ≡ field_number (λ n. n.clipped) (field_answer w (decoded field w h start pixels)) clipped
+  pub codes_are : codes' ≡ or_before (λ n. n.codes) (field_answer w (decoded field w h start pixels)) codes
+  pub clipped_are : clipped' ≡ or_before (λ n. n.clipped) (field_answer w (decoded field w h start pixels)) clipped
   pub stores : pixels' ≡ paint_field w (start * w) (listed (decoded field w h start pixels)) pixels
 
 -- the numbers of what was told and of its rows, in the order of include/vobsub.h
@@ -145,13 +110,6 @@ told_numbers t rs =
     ∷ cond t.forced 1 0 ∷ t.fields.top ∷ t.fields.bottom ∷ cond t.changed 1 0
     ∷ length (band_words t.bands) ∷ codes_in rs ∷ clipped_in (width t) rs ∷ []
 
--- the numbers and the bands of a record where nothing is refused, or what was there
-abbrev pub record_numbers : Record → List ℕ → List ℕ
-record_numbers a before = cond (eqb a.refused 0) (spu_numbers a.spu) before
-
-abbrev pub record_bands : Record → List ℕ → List ℕ
-record_bands a before = cond (eqb a.refused 0) a.bands before
-
 -- what is stored is what is listed of the unit: the map, all words of the array, and each number at its place in
 -- include/vobsub.h (FORMAT 3.6)
 pub record UnitTold (l : ListedUnit) (pixels pixels' bands numbers : List ℕ) : Type 0 where
@@ -160,38 +118,22 @@ pub record UnitTold (l : ListedUnit) (pixels pixels' bands numbers : List ℕ) :
   pub numbers_are : numbers ≡ told_numbers (told l.blocks) l.rows
 
 pub record UnitDecoded (unit pixels bands before : List ℕ) (r : ℕ) (pixels' bands' after : List ℕ) : Type 0 where
-  pub refusal : r ≡ (record_given (unit_in unit (length pixels))).refused
+  pub refusal : r ≡ refusal_of (record_given (unit_in unit (length pixels)))
   pub returned : Returned (unit_in unit (length pixels)) r
-  pub told : after ≡ record_numbers (record_given (unit_in unit (length pixels))) before
+  pub told : after ≡ or_before (λ a. spu_numbers a.spu) (record_given (unit_in unit (length pixels))) before
   pub paints : pixels' ≡ sets pixels 0 (unit_map (unit_in unit (length pixels)))
-  pub stores : bands' ≡ record_bands (record_given (unit_in unit (length pixels))) bands
+  pub stores : bands' ≡ or_before (λ a. a.bands) (record_given (unit_in unit (length pixels))) bands
   pub as_found : (r ≡ 0 → ⊥) → (pixels' ≡ pixels) × (bands' ≡ bands) × (after ≡ before)
   pub exactly_when : (r ≡ 0) ↔ ((l : ListedUnit) × IsUnit unit l × LongEnough l (length pixels))
   pub unit_told : (l : ListedUnit) → IsUnit unit l → LongEnough l (length pixels)
       → UnitTold l pixels pixels' bands' after
 
-abbrev pub demo_refusal : DemoAnswer → ℕ
-demo_refusal (DemoAnswer.Wrote n) = 0
-demo_refusal (DemoAnswer.Refused k) = k
-
--- the written unit's length, or the number that was there
-abbrev pub demo_length : DemoAnswer → ℕ → ℕ
-demo_length (DemoAnswer.Wrote n) before = n
-demo_length (DemoAnswer.Refused k) before = before
-
 pub record UnitWritten (w h : ℕ) (indices out : List ℕ) (before r : ℕ) (out' : List ℕ) (after : ℕ) : Type 0 where
-  pub refusal : r ≡ demo_refusal (demo_given (demo_at w h indices (length out)))
+  pub refusal : r ≡ refusal_of (demo_given (demo_at w h indices (length out)))
   pub returned : Returned (demo_at w h indices (length out)) r
-  pub long : after ≡ demo_length (demo_given (demo_at w h indices (length out))) before
+  pub long : after ≡ or_before (λ n. n) (demo_given (demo_at w h indices (length out))) before
   pub stores : out' ≡ sets out 0 (listed (demo_at w h indices (length out)))
   pub round_trip : r ≡ 0 → RoundTrip w h indices (take after out')
-
--- and those and the palette where nothing is refused, or what was there
-abbrev pub idx_record : IdxAnswer → List ℕ → List ℕ
-idx_record a before = cond (eqb a.refused 0) (idx_numbers a) before
-
-abbrev pub idx_palette : IdxAnswer → List ℕ → List ℕ
-idx_palette a before = cond (eqb a.refused 0) a.palette before
 
 -- what is stored is what is listed of the text: start and position of each cue, the palette, and each number at its
 -- place in include/vobsub.h (FORMAT 1.9, 1.12)
@@ -204,10 +146,10 @@ pub record TextTold (t : ListedText) (starts : List ℤ) (positions : List ℕ) 
       ≡ (display_size t).width ∷ (display_size t).height ∷ cond (has_palette t) 1 0 ∷ length (cues_of t) ∷ []
 
 pub record IndexGiven (text : List ℕ) (starts : List ℤ) (positions palette numbers : List ℕ) (r : ℕ) (starts' : List ℤ) (positions' palette' numbers' : List ℕ) : Type 0 where
-  pub refusal : r ≡ (idx_answer (idx_with starts positions text)).refused
+  pub refusal : r ≡ refusal_of (idx_answer (idx_with starts positions text))
   pub returned : Returned (idx_with starts positions text) r
-  pub told : numbers' ≡ idx_record (idx_answer (idx_with starts positions text)) numbers
-  pub colours : palette' ≡ idx_palette (idx_answer (idx_with starts positions text)) palette
+  pub told : numbers' ≡ or_before idx_numbers (idx_answer (idx_with starts positions text)) numbers
+  pub colours : palette' ≡ or_before (λ a. a.palette) (idx_answer (idx_with starts positions text)) palette
   pub starts_are : starts' ≡ sets starts 0 (starts_of (listed_by (idx_with starts positions text) cues_of))
   pub positions_are : positions' ≡ sets positions 0 (positions_of (listed_by (idx_with starts positions text) cues_of))
   pub as_found : (r ≡ 0 → ⊥)
@@ -216,16 +158,6 @@ pub record IndexGiven (text : List ℕ) (starts : List ℤ) (positions palette n
       ↔ ((t : ListedText) × IsText text t × (length (cues_of t) ≤ min (length starts) (length positions)))
   pub text_told : (t : ListedText) → IsText text t → r ≡ 0
       → TextTold t starts positions starts' positions' palette' numbers'
-
--- and those, the start and the palette where nothing is refused, or what was there
-abbrev pub cue_record : CueAnswer → List ℕ → List ℕ
-cue_record a before = cond (eqb a.refused 0) (cue_numbers a) before
-
-abbrev pub cue_start : CueAnswer → ℤ → ℤ
-cue_start a before = cond (eqb a.refused 0) a.start.0 before
-
-abbrev pub cue_palette : CueAnswer → List ℕ → List ℕ
-cue_palette a before = cond (eqb a.refused 0) a.palette before
 
 -- what is stored is what the listed text gives for cue n, which is c: its start, the palette, and each number at its
 -- place in include/vobsub.h (FORMAT 1.9, 1.10)
@@ -237,28 +169,15 @@ pub record CueTold (t : ListedText) (n : ℕ) (c : Cue) (start : ℤ) (palette n
       ∷ cond (has_palette t) 1 0 ∷ []
 
 pub record CueGiven (text : List ℕ) (cue : ℕ) (start : ℤ) (palette numbers : List ℕ) (r : ℕ) (start' : ℤ) (palette' numbers' : List ℕ) : Type 0 where
-  pub refusal : r ≡ (cue_answer (pick_of (idx_of text) cue)).refused
+  pub refusal : r ≡ refusal_of (cue_answer (pick_of (idx_of text) cue))
   pub returned : Returned (pick_of (idx_of text) cue) r
-  pub starts_at : start' ≡ cue_start (cue_answer (pick_of (idx_of text) cue)) start
-  pub told : numbers' ≡ cue_record (cue_answer (pick_of (idx_of text) cue)) numbers
-  pub colours : palette' ≡ cue_palette (cue_answer (pick_of (idx_of text) cue)) palette
+  pub starts_at : start' ≡ or_before (λ a. a.start.0) (cue_answer (pick_of (idx_of text) cue)) start
+  pub told : numbers' ≡ or_before cue_numbers (cue_answer (pick_of (idx_of text) cue)) numbers
+  pub colours : palette' ≡ or_before (λ a. a.palette) (cue_answer (pick_of (idx_of text) cue)) palette
   pub as_found : (r ≡ 0 → ⊥) → (start' ≡ start) × (palette' ≡ palette) × (numbers' ≡ numbers)
   pub exactly_when : (r ≡ 0) ↔ ((t : ListedText) × IsText text t × (cue < length (cues_of t)))
   pub cue_told : (t : ListedText) → IsText text t → (c : Cue) → cue_at (cues_of t) cue ≡ some c → r ≡ 0
       → CueTold t cue c start' palette' numbers'
-
-abbrev pub canvas_refusal : CanvasAnswer → ℕ
-canvas_refusal (CanvasAnswer.Paints s) = 0
-canvas_refusal (CanvasAnswer.Refused k) = k
-
--- those and the times of an answer, or what was there
-abbrev pub canvas_record : CanvasAnswer → List ℕ → List ℕ
-canvas_record (CanvasAnswer.Paints s) before = shown_numbers s
-canvas_record (CanvasAnswer.Refused k) before = before
-
-abbrev pub canvas_times : CanvasAnswer → List ℤ → List ℤ
-canvas_times (CanvasAnswer.Paints s) before = shown_times s
-canvas_times (CanvasAnswer.Refused k) before = before
 
 -- the times and the numbers are the reading's, each at its place in include/vobsub.h (FORMAT 6.5)
 pub record ReadingTold (x : Reading) (times : List ℤ) (numbers : List ℕ) : Type 0 where
@@ -270,10 +189,10 @@ pub record ReadingTold (x : Reading) (times : List ℤ) (numbers : List ℕ) : T
 
 -- the answer with its numbers, what the three buffers hold, and the call's claim on whole files, for what is told too
 pub record CueDecoded (text file : List ℕ) (q : Wanted) (b : Lent) (times : List ℤ) (numbers : List ℕ) (r : ℕ) (b' : Lent) (times' : List ℤ) (numbers' : List ℕ) : Type 0 where
-  pub refusal : r ≡ canvas_refusal (canvas_answer (reading_in text file q b))
+  pub refusal : r ≡ refusal_of (canvas_answer (reading_in text file q b))
   pub returned : Returned (reading_in text file q b) r
-  pub timed : times' ≡ canvas_times (canvas_answer (reading_in text file q b)) times
-  pub told : numbers' ≡ canvas_record (canvas_answer (reading_in text file q b)) numbers
+  pub timed : times' ≡ or_before shown_times (canvas_answer (reading_in text file q b)) times
+  pub told : numbers' ≡ or_before shown_numbers (canvas_answer (reading_in text file q b)) numbers
   pub in_scratch : b'.scratch ≡ sets b.scratch 0 (scratch_of (found_for text file q (length b.scratch)))
   pub in_pixels : b'.pixels ≡ sets b.pixels 0 (pixels_of (reading_in text file q b))
   pub in_canvas : b'.canvas ≡ sets b.canvas 0 (painted_of (reading_in text file q b))

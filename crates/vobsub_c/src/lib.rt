@@ -1,17 +1,15 @@
 // The functions that `vobsub_c_c` exports for C and Rust, thin over those of the layers: an answer is its refusal, 0 where there is none, and its
 // value goes where the caller says, which is as found on a refusal.
+// Each is a `match` of its own: an inner function with `?` would state every clause a second time, and `map` with a closure that stores says
+// nothing of what is lent on a refusal. An array that is a field goes through a variable, as the borrow checker asks.
 #![tactic(auto)]
 
 ghost use Rattle.grammar.specs.Reading.{wanted};
 ghost use Rattle.vobsub_model.specs.Call.{lent};
 ghost use Rattle.vobsub_c.specs.Answers.{BandsGiven, UnitExtracted, UnitUndisturbed, FieldDecoded, BodyFound, UnitDecoded, UnitWritten, IndexGiven, CueGiven, CueDecoded, CueUndisturbed};
 
-use bands_model::BandAnswer;
-use demo_model::DemoAnswer;
-use outcome::NO_UNIT;
-use ps_model::UnitAnswer;
-use rle_model::FieldAnswer;
-use vobsub_model::CanvasAnswer;
+use outcome::Refusal;
+use ps_model::UnitAt;
 use vobsub_numbers::{
     cue_numbers_of, idx_numbers_of, numbers_of, shown_numbers_of, shown_times_of,
 };
@@ -26,11 +24,11 @@ pub fn vobsub_parse_chg_colcon_payload(
     ensures { BandsGiven payload.now bands.old count.old result bands.new count.new }
 {
     match chg_colcon::parse_chg_colcon_payload(payload, bands) {
-        BandAnswer::Words(n) => {
+        Ok(n) => {
             *count = n;
             0
         }
-        BandAnswer::Refused(number) => number,
+        Err(refusal) => refusal.number(),
     }
 }
 
@@ -49,17 +47,17 @@ pub fn vobsub_extract_spu(
         × UnitUndisturbed file.now position stream scratch.old length.old joined.old result scratch.new length.new joined.new }
 {
     match ps::extract_spu(file, position, stream, scratch) {
-        UnitAnswer::Bare(n) => {
+        Ok(UnitAt::Bare(n)) => {
             *length = n;
             *joined = 0;
             0
         }
-        UnitAnswer::Joined(n) => {
+        Ok(UnitAt::Joined(n)) => {
             *length = n;
             *joined = 1;
             0
         }
-        UnitAnswer::Refused(number) => number,
+        Err(refusal) => refusal.number(),
     }
 }
 
@@ -68,13 +66,13 @@ pub fn vobsub_extract_spu(
 pub fn vobsub_parse_pes_body(pes: &[u8], body: &mut usize) -> u8
     ensures { BodyFound pes.now body.old result body.new }
 {
-    let mut found = false;
-    let rest = packets::parse_pes_body(pes, &mut found);
-    if found {
-        *body = pes.len() - rest.len();
-        return 0;
+    match packets::parse_pes_body(pes) {
+        Some(rest) => {
+            *body = pes.len() - rest.len();
+            0
+        }
+        None => Refusal::NoUnit.number(),
     }
-    NO_UNIT
 }
 
 // The rows start_row, start_row + 2, .. of a map of that width and height, how many codes they have, and how many of
@@ -92,12 +90,12 @@ pub fn vobsub_decode_rle_field(
     ensures { FieldDecoded field.now width height start_row pixels.old codes.old clipped.old result pixels.new codes.new clipped.new }
 {
     match rle::decode_rle_field(field, width, height, start_row, pixels) {
-        FieldAnswer::Rows(counts) => {
+        Ok(counts) => {
             *codes = counts.codes;
             *clipped = counts.clipped;
             0
         }
-        FieldAnswer::Refused(number) => number,
+        Err(refusal) => refusal.number(),
     }
 }
 
@@ -112,14 +110,15 @@ pub fn vobsub_parse_and_decode_spu(
 ) -> u8
     ensures { UnitDecoded unit.now pixels.old bands.old numbers.old result pixels.new bands.new numbers.new }
 {
-    let a = spu::parse_and_decode_spu(unit, pixels);
-    if a.refused == 0 {
-        let words = a.bands;
-        *bands = words;
-        *numbers = numbers_of(a.spu);
-        return 0;
+    match spu::parse_and_decode_spu(unit, pixels) {
+        Ok(record) => {
+            let words = record.bands;
+            *bands = words;
+            *numbers = numbers_of(record.spu);
+            0
+        }
+        Err(refusal) => refusal.number(),
     }
-    a.refused
 }
 
 // A picture as a unit in the front of `out`, and the unit's length.
@@ -134,11 +133,11 @@ pub fn vobsub_build_demo_spu(
     ensures { UnitWritten width height indices.now out.old length.old result out.new length.new }
 {
     match demo::build_demo_spu(width, height, indices, out) {
-        DemoAnswer::Wrote(n) => {
+        Ok(n) => {
             *length = n;
             0
         }
-        DemoAnswer::Refused(number) => number,
+        Err(refusal) => refusal.number(),
     }
 }
 
@@ -153,14 +152,15 @@ pub fn vobsub_parse_idx(
 ) -> u8
     ensures { IndexGiven text.now starts.old positions.old palette.old numbers.old result starts.new positions.new palette.new numbers.new }
 {
-    let a = idx::parse_idx(text, starts, positions);
-    if a.refused == 0 {
-        let colours = a.palette;
-        *palette = colours;
-        *numbers = idx_numbers_of(a);
-        return 0;
+    match idx::parse_idx(text, starts, positions) {
+        Ok(index) => {
+            let colours = index.palette;
+            *palette = colours;
+            *numbers = idx_numbers_of(index);
+            0
+        }
+        Err(refusal) => refusal.number(),
     }
-    a.refused
 }
 
 // One cue of an index text: its start, its other numbers, and the text's palette.
@@ -174,17 +174,16 @@ pub fn vobsub_pick_cue(
 ) -> u8
     ensures { CueGiven text.now cue start.old palette.old numbers.old result start.new palette.new numbers.new }
 {
-    let a = idx::pick_cue(text, cue);
-    if a.refused == 0 {
-        let time = a.start;
-        let from = time.0;
-        let colours = a.palette;
-        *start = from;
-        *palette = colours;
-        *numbers = cue_numbers_of(a);
-        return 0;
+    match idx::pick_cue(text, cue) {
+        Ok(picked) => {
+            let colours = picked.palette;
+            *start = picked.start.0;
+            *palette = colours;
+            *numbers = cue_numbers_of(picked);
+            0
+        }
+        Err(refusal) => refusal.number(),
     }
-    a.refused
 }
 
 // One cue of a title in one stream, from index text and file: its canvas in the front of `canvas`, its index map in the
@@ -206,11 +205,11 @@ pub fn vobsub_decode_cue(
         × CueUndisturbed text.now file.now (wanted cue stream) (lent scratch.old pixels.old canvas.old) times.old numbers.old result (lent scratch.new pixels.new canvas.new) times.new numbers.new }
 {
     match vobsub::decode_cue(text, file, cue, stream, scratch, pixels, canvas) {
-        CanvasAnswer::Paints(s) => {
+        Ok(s) => {
             *times = shown_times_of(s);
             *numbers = shown_numbers_of(s);
             0
         }
-        CanvasAnswer::Refused(number) => number,
+        Err(refusal) => refusal.number(),
     }
 }

@@ -3,14 +3,15 @@ use Prim.Native.Nat.{ℕ}
 use native.Mathlib.Omega.{arith}
 use mathlib.Core.Path.{◌≡◌, refl, sym, ap, ◌∙◌, subst}
 use mathlib.Core.Bool.{Bool, true, false, cond}
-use mathlib.Core.Option.{Option, some, none}
+use Rattle.std.specs.Prelude.{Option, Some as some, None as none}
 use mathlib.Core.List.{List}
 use lib.IntN.{ℤ}
 use lib.ListN.{length}
 use lib.Seq.{sets}
 use lib.Dec.{leb}
 use borrow.Author.Tests.{ne_eqb}
-use Rattle.outcome.specs.Outcome.{Res, ok, refuse, check, map_res, bad_stream, no_cue}
+use Rattle.outcome.proofs.Laws.{refuse-injective}
+use Rattle.outcome.specs.Outcome.{Res, ok, refuse, IsOk, check, map_res, bad_stream, no_cue}
 use Rattle.grammar.specs.Index.{ListedText}
 use Rattle.grammar.specs.IndexCues.{Cue, cues_of, cue_at}
 use Rattle.grammar.specs.Packets.{Form, bare, packets, unit_of, stream_id, top_stream}
@@ -30,7 +31,7 @@ use Rattle.idx_model.proofs.Picks.{cue-in}
 use Rattle.idx_model.proofs.Refusals.{text-not-11}
 use Rattle.ps_model.specs.Unit.{unit_at, stream_unit}
 use Rattle.ps_model.specs.Answers.{form_stored, unit_given, unit_stored, unit_part, Extracted}
-use Rattle.ps_model.specs.declared.UnitAnswer.{UnitAnswer}
+use Rattle.ps_model.specs.declared.UnitAt.{UnitAt}
 use Rattle.ps_model.proofs.Grammar.{form_iff}
 use Rattle.ps_model.proofs.Claim.{stream_sound, unit-there}
 use Rattle.spu_model.specs.Answers.{unit_map}
@@ -41,7 +42,6 @@ use Rattle.vobsub_model.specs.Claim.{Exactly, Undisturbed}
 use Rattle.vobsub_model.proofs.Claim.{claim}
 use Rattle.vobsub_model.proofs.Streams.{undisturbed}
 use Rattle.vobsub_model.specs.declared.Shown.{Shown}
-use Rattle.vobsub_model.specs.declared.CanvasAnswer.{CanvasAnswer}
 use Rattle.spu_model.specs.Unit.{counts_of}
 
 -- where the cue is there, its unit is that of the stream
@@ -62,78 +62,78 @@ module _ (text file : List ℕ) (cue stream : ℕ) (s px cv : List ℕ) where
 
   -- a unit that is not found: nothing is stored
   refused_all : (n : ℕ) → found_for text file (wanted cue stream) (length s) ≡ refuse n
-      → CuePainted text file (wanted cue stream) before (CanvasAnswer.Refused n) before
+      → CuePainted text file (wanted cue stream) before (refuse n) before
   unfolding reading_in listed_in
   refused_all n e = record { answer = rw e; in_scratch = rw e; in_pixels = rw e; in_canvas = rw e }
 
-  module _ (c : CueAnswer) (e : c ≡ cue_answer (pick_of (idx_of text) cue)) where
+  module _ (r : Res CueAnswer) (e : r ≡ cue_answer (pick_of (idx_of text) cue)) where
     -- the text is refused, or the cue is not there
-    refused-first : (c.refused ≡ 0 → ⊥)
-        → CuePainted text file (wanted cue stream) before (CanvasAnswer.Refused (first_refusal c.refused stream)) before
+    pub cue-refused : (k : ℕ) → r ≡ refuse k → (n : ℕ) → n ≡ first_refusal k stream
+        → CuePainted text file (wanted cue stream) before (refuse n) before
     unfolding pick_of cue_answer found_for
-    refused-first h = go (idx_of text) refl
+    cue-refused k h n y =
+        subst (λ (i : ℕ). CuePainted text file (wanted cue stream) before (refuse i) before) (sym y) (go (idx_of text) refl)
       where
         -- by whether there is such a stream
         with_stream : (index : ListedText) → idx_of text ≡ ok index → cue_at (cues_of index) cue ≡ none → (t : Bool)
             → leb stream top_stream ≡ t
-            → CuePainted text file (wanted cue stream) before (CanvasAnswer.Refused (cond t no_cue bad_stream)) before
+            → CuePainted text file (wanted cue stream) before (refuse (cond t no_cue bad_stream)) before
         with_stream index q f true u = refused_all no_cue (rw (q, u, f))
         with_stream index q f false u = refused_all bad_stream (rw (q, u))
 
         with-cue : (index : ListedText) → idx_of text ≡ ok index → (o : Option Cue) → cue_at (cues_of index) cue ≡ o
-            → CuePainted text file (wanted cue stream) before (CanvasAnswer.Refused (first_refusal c.refused stream)) before
-        with-cue index q (some a) f = absurd (h (picked text cue c e index q a f).0)
+            → CuePainted text file (wanted cue stream) before (refuse (first_refusal k stream)) before
+        with-cue index q (some a) f = absurd (subst IsOk h (picked text cue r e index q a f).0)
         with-cue index q none f =
             let p : pick_of (idx_of text) cue ≡ refuse no_cue = rw (q, f) in
-            let z : c.refused ≡ no_cue = ap (λ (a : CueAnswer). a.refused) (e ∙ ap cue_answer p) in
+            let z : k ≡ no_cue = refuse-injective (sym h ∙ e ∙ ap cue_answer p) in
             rw z (with_stream index q f (leb stream top_stream) refl)
 
-        go : (r : Res ListedText) → idx_of text ≡ r
-            → CuePainted text file (wanted cue stream) before (CanvasAnswer.Refused (first_refusal c.refused stream)) before
-        go (refuse n) q =
-            let p : pick_of (idx_of text) cue ≡ refuse n = rw q in
-            let z : c.refused ≡ n = ap (λ (a : CueAnswer). a.refused) (e ∙ ap cue_answer p) in
-            rw (z, ne_eqb n no_cue (text-not-11 none text n q)) (refused_all n (rw q))
+        go : (x : Res ListedText) → idx_of text ≡ x
+            → CuePainted text file (wanted cue stream) before (refuse (first_refusal k stream)) before
+        go (refuse m) q =
+            let p : pick_of (idx_of text) cue ≡ refuse m = rw q in
+            let z : k ≡ m = refuse-injective (sym h ∙ e ∙ ap cue_answer p) in
+            rw (z, ne_eqb m no_cue (text-not-11 none text m q)) (refused_all m (rw q))
         go (ok index) q = with-cue index q (cue_at (cues_of index) cue) refl
 
-    pub cue-refused : (c.refused ≡ 0 → ⊥) → (n : ℕ) → n ≡ first_refusal c.refused stream
-        → CuePainted text file (wanted cue stream) before (CanvasAnswer.Refused n) before
-    cue-refused h n q = subst (λ (k : ℕ). CuePainted text file (wanted cue stream) before (CanvasAnswer.Refused k) before) (sym q) (refused-first h)
-
     -- the cue is there
-    module _ (h : c.refused ≡ 0) where
+    module _ (c : CueAnswer) (h : r ≡ ok c) where
+      is_there : IsOk r
+      is_there = subst IsOk (sym h) tt
+
       abbrev index : ListedText
-      index = (has text cue c e (idx_of text) refl h).0
+      index = (has text cue r e (idx_of text) refl is_there).0
 
       text_listed : idx_of text ≡ ok index
-      text_listed = (has text cue c e (idx_of text) refl h).1
+      text_listed = (has text cue r e (idx_of text) refl is_there).1
 
       abbrev at : Cue
-      at = (cue-in (cues_of index) cue (has text cue c e (idx_of text) refl h).2).0
+      at = (cue-in (cues_of index) cue (has text cue r e (idx_of text) refl is_there).2).0
 
       cue_is : cue_at (cues_of index) cue ≡ some at
-      cue_is = (cue-in (cues_of index) cue (has text cue c e (idx_of text) refl h).2).1
+      cue_is = (cue-in (cues_of index) cue (has text cue r e (idx_of text) refl is_there).2).1
 
       gives : GivesCue index cue at c
-      gives = (picked text cue c e index text_listed at cue_is).1
+      gives = (picked text cue r e index text_listed at cue_is).1 c h
 
       found-is : found_for text file (wanted cue stream) (length s) ≡ map_res (found index) (stream_unit stream file c.position (length s))
       found-is = found_at text file cue stream (length s) index at c.position text_listed cue_is gives.position
 
       -- and its unit is not found
-      pub unit-none : (r : UnitAnswer) (n : ℕ) (s' : List ℕ) → Extracted file c.position stream s r s'
-          → r ≡ UnitAnswer.Refused n
-          → CuePainted text file (wanted cue stream) before (CanvasAnswer.Refused n) (lent s' px cv)
-      unit-none r n s' d q = go (stream_unit stream file c.position (length s)) refl (sym q ∙ d.answer) d.scratch
+      pub unit-none : (v : Res UnitAt) (n : ℕ) (s' : List ℕ) → Extracted file c.position stream s v s'
+          → v ≡ refuse n
+          → CuePainted text file (wanted cue stream) before (refuse n) (lent s' px cv)
+      unit-none v n s' d q = go (stream_unit stream file c.position (length s)) refl (sym q ∙ d.answer) d.scratch
         where
           go : (x : Res Form) → stream_unit stream file c.position (length s) ≡ x
-              → UnitAnswer.Refused n ≡ unit_given x → s' ≡ sets s 0 (unit_stored x)
-              → CuePainted text file (wanted cue stream) before (CanvasAnswer.Refused n) (lent s' px cv)
+              → refuse n ≡ unit_given x → s' ≡ sets s 0 (unit_stored x)
+              → CuePainted text file (wanted cue stream) before (refuse n) (lent s' px cv)
           go (ok (bare u)) f g k = let z : ◌≡◌ {A = ℕ} 0 1 = cc in absurd (omega arith)
           go (ok (packets ps)) f g k = let z : ◌≡◌ {A = ℕ} 0 1 = cc in absurd (omega arith)
           go (refuse m) f g k =
               let z : n ≡ m = cc in
-              subst (λ (l : List ℕ). CuePainted text file (wanted cue stream) before (CanvasAnswer.Refused n) (lent l px cv)) (sym k)
+              subst (λ (l : List ℕ). CuePainted text file (wanted cue stream) before (refuse n) (lent l px cv)) (sym k)
               (refused_all n (found-is ∙ ap (map_res (found index)) f ∙ ap refuse (sym z)))
 
       start_is : c.start.0 ≡ start_at (cue_at (cues_of index) cue)
@@ -148,14 +148,12 @@ module _ (text file : List ℕ) (cue stream : ℕ) (s px cv : List ℕ) where
           let t : Shown = shown_of c (spu_of (told l.blocks) (counts_of l)) (times_told c.start.0 (told l.blocks)) in
           λ i. record {
             start = micros (start_is i);
-            has_duration = gives.lasts i;
-            duration = micros (gives.duration i);
+            duration = gives.duration i;
             started = t.started;
             stopped = t.stopped;
             start_delay = t.start_delay;
             stop_delay = t.stop_delay;
             show = (times_told (start_is i) (told l.blocks)).show;
-            hides = (times_told (start_is i) (told l.blocks)).hides;
             hide = (times_told (start_is i) (told l.blocks)).hide;
             x1 = t.x1;
             y1 = t.y1;
@@ -182,7 +180,7 @@ module _ (text file : List ℕ) (cue stream : ℕ) (s px cv : List ℕ) where
             (λ (z : ℤ). map_res (reading (wanted cue stream) (found index m)) (in_time (λ (l : ListedUnit). told_stay z (told l.blocks)) (canvas_in (unit_of m) (length px) (length cv))))
             (sym start_is)
 
-        painted-all : (a : CanvasAnswer) (s' px' cv' : List ℕ) → s' ≡ sets s 0 (form_stored m)
+        painted-all : (a : Res Shown) (s' px' cv' : List ℕ) → s' ≡ sets s 0 (form_stored m)
             → UnitPainted (unit_of m) c px cv a px' cv'
             → CuePainted text file (wanted cue stream) before a (lent s' px' cv')
         unfolding map_of canvas_of
@@ -196,7 +194,7 @@ module _ (text file : List ℕ) (cue stream : ℕ) (s px cv : List ℕ) where
           where
             answers : (x : Res ListedUnit)
                 → paints_of c x ≡ canvas_answer (map_res (reading (wanted cue stream) (found index m)) x)
-            answers (ok l) = ap CanvasAnswer.Paints (shown-is m l)
+            answers (ok l) = ap ok (shown-is m l)
             answers (refuse n) = refl
 
             maps : (x : Res ListedUnit) → unit_map x ≡ pixels_of (map_res (reading (wanted cue stream) (found index m)) x)
@@ -209,26 +207,26 @@ module _ (text file : List ℕ) (cue stream : ℕ) (s px cv : List ℕ) where
             canvases (refuse n) = refl
 
       -- its unit is found, and painted
-      pub unit-some : (r : UnitAnswer) (s' : List ℕ) → Extracted file c.position stream s r s'
-          → ((n : ℕ) → r ≡ UnitAnswer.Refused n → ⊥)
-          → (a : CanvasAnswer) (px' cv' : List ℕ) → UnitPainted (unit_part file s' c.position r) c px cv a px' cv'
+      pub unit-some : (v : Res UnitAt) (s' : List ℕ) → Extracted file c.position stream s v s'
+          → ((n : ℕ) → v ≡ refuse n → ⊥)
+          → (a : Res Shown) (px' cv' : List ℕ) → UnitPainted (unit_part file s' c.position v) c px cv a px' cv'
           → CuePainted text file (wanted cue stream) before a (lent s' px' cv')
-      unit-some r s' d o a px' cv' p = go (stream_unit stream file c.position (length s)) refl d.answer d.scratch
+      unit-some v s' d o a px' cv' p = go (stream_unit stream file c.position (length s)) refl d.answer d.scratch
         where
-          go : (x : Res Form) → stream_unit stream file c.position (length s) ≡ x → r ≡ unit_given x
+          go : (x : Res Form) → stream_unit stream file c.position (length s) ≡ x → v ≡ unit_given x
               → s' ≡ sets s 0 (unit_stored x)
               → CuePainted text file (wanted cue stream) before a (lent s' px' cv')
           go (refuse n) f g k = absurd (o n g)
           go (ok m) f g k =
               let t = stream_sound file c.position stream (length s) m f in
               let i = (form_iff (stream_id stream) file c.position m).0 t.1 in
-              let u : unit_part file s' c.position r ≡ unit_of m =
-              ap (λ (x : List ℕ). unit_part file x c.position r) k
+              let u : unit_part file s' c.position v ≡ unit_of m =
+              ap (λ (x : List ℕ). unit_part file x c.position v) k
               ∙ ap (unit_part file (sets s 0 (form_stored m)) c.position) g
               ∙ unit-there (stream_id stream) file c.position s m i.1 t.2 in
               painted-all m f a s' px' cv' k (subst (λ (x : List ℕ). UnitPainted x c px cv a px' cv') u p)
 
 -- with both claims
-pub kept : (text file : List ℕ) (q : Wanted) (b : Lent) (r : CanvasAnswer) (b' : Lent) → CuePainted text file q b r b'
+pub kept : (text file : List ℕ) (q : Wanted) (b : Lent) (r : Res Shown) (b' : Lent) → CuePainted text file q b r b'
     → CuePainted text file q b r b' × Exactly text file q b r b' × Undisturbed text file q b r b'
 kept text file q b r b' d = (d, claim text file q b r b' d, undisturbed text file q b r b' d)

@@ -1,10 +1,10 @@
 -- Closed inputs on which each edit of this crate's definitions gives another value. Assumes nothing.
 use mathlib.Core.Path.{◌≡◌, refl, ap}
-use mathlib.Core.Bool.{true}
-use mathlib.Core.Option.{some, none}
+use mathlib.Core.Bool.{true, false}
+use Rattle.std.specs.Prelude.{Some as some, None as none}
 use mathlib.Core.List.{List, [], ◌∷◌}
 use lib.IntN.{pos}
-use Rattle.outcome.specs.Outcome.{ok, refuse, refusal_of, no_cue}
+use Rattle.outcome.specs.Outcome.{ok, refusal_of}
 use Rattle.outcome.specs.Lists.{list_fuel, list_from}
 use Rattle.grammar.specs.Bytes.{word, nibble, nibbles}
 use Rattle.grammar.specs.IndexNumbers.{numeral}
@@ -21,7 +21,8 @@ use Rattle.idx_numbers_model.specs.Parts.{strip, trim, front, rest, shorn, split
 use Rattle.idx_numbers_model.specs.Numbers.{unsigned, signed, bare}
 use Rattle.idx_lines_model.specs.Lines.{line_of, parts_at, first_such, last_such, fields, steps}
 use Rattle.idx_model.specs.Text.{lines_in, text_in, idx_in}
-use Rattle.idx_model.specs.Answers.{cue_answer}
+use Rattle.clock_model.specs.Answers.{micros}
+use Rattle.idx_model.specs.declared.CueAnswer.{CueAnswer}
 use Rattle.ps_model.specs.Packets.{is_bare, form_at}
 use Rattle.ps_model.specs.Unit.{unit_at}
 use Rattle.rle_model.specs.Codes.{code_from, code_at, row_at, field_at}
@@ -82,27 +83,30 @@ unfolding shown_given
 values-given = (refl, refl, refl, refl)
 
 pub times-given :
-    ((shown_given values).start.0 ≡ pos 7) × ((shown_given values).show.0 ≡ pos 8) × ((shown_given values).hide.0 ≡ pos 9)
-    × ((shown_given values).hides ≡ true) × ((shown_given values).start_delay.0 ≡ 3) × ((shown_given values).stop_delay.0 ≡ 4)
+    ((shown_given values).start.0 ≡ pos 7) × ((shown_given values).show ≡ some (micros (pos 8))) × ((shown_given values).hide ≡ some (micros (pos 9)))
+    × ((shown_given values).start_delay.0 ≡ 3) × ((shown_given values).stop_delay.0 ≡ 4)
 unfolding shown_given
-times-given = (refl, refl, refl, refl, refl, refl)
+times-given = (refl, refl, refl, refl, refl)
 
 -- and of the reading that is shown and hidden
 pub times-read :
-    ((shown_given (shown readings.timed)).show.0 ≡ pos 1011377)
-    × ((shown_given (shown readings.timed)).hide.0 ≡ pos 1102400)
+    ((shown_given (shown readings.timed)).show ≡ some (micros (pos 1011377)))
+    × ((shown_given (shown readings.timed)).hide ≡ some (micros (pos 1102400)))
 unfolding shown_given
 times-read = (
-  ap (λ (s : Shown). (shown_given s).show.0) readings.timed-shown,
-  ap (λ (s : Shown). (shown_given s).hide.0) readings.timed-shown,
+  ap (λ (s : Shown). (shown_given s).show) readings.timed-shown,
+  ap (λ (s : Shown). (shown_given s).hide) readings.timed-shown,
 )
 
 -- and of the record of an area of 3 by 3 there
 abbrev blocks : List Block
 blocks = record { place = 0; delay = 0; next = 0; commands = record { place = 4; order = area 1 3 2 4 } ∷ [] } ∷ []
 
+abbrev first : CueAnswer
+first = record { start = micros (pos 0); position = 0; duration = none; has_palette = false; palette = [] }
+
 abbrev recorded : Recorded
-recorded = shown_of (cue_answer (refuse no_cue)) (spu_of (told blocks) (record { codes = 5; clipped = 2 })) (times_told (pos 7) (told blocks))
+recorded = shown_of first (spu_of (told blocks) (record { codes = 5; clipped = 2 })) (times_told (pos 7) (told blocks))
 
 pub values-recorded :
     (recorded.x1 ≡ 1) × (recorded.y1 ≡ 2) × (recorded.codes ≡ 5) × (recorded.clipped ≡ 2)

@@ -3,7 +3,7 @@
 use Prim.Native.Nat.{ℕ, ◌*◌, ◌≤◌, ◌<◌}
 use mathlib.Core.Path.{◌≡◌, refl, sym, ap, ◌∙◌, subst}
 use mathlib.Core.Logic.{◌↔◌}
-use mathlib.Core.Option.{some}
+use Rattle.std.specs.Prelude.{Some as some}
 use mathlib.Core.List.{List}
 use lib.ListN.{length}
 use lib.Dec.{leb}
@@ -20,7 +20,7 @@ use Rattle.grammar.specs.Picture.{ListedUnit, IsUnit}
 use Rattle.grammar.specs.Pixels.{clipped_in}
 use Rattle.grammar.specs.Times.{TimeStays}
 use Rattle.grammar.specs.Reading.{Wanted, wanted_id, Reading, IsReading, told_by, reading_start, show_of, hide_of, shown}
-use Rattle.clock_model.specs.Answers.{time_or0}
+use Rattle.clock_model.specs.Answers.{micros_in}
 use Rattle.clock_model.proofs.Clock.{stay_iff}
 use Rattle.control_model.specs.Few.{few_at}
 use Rattle.idx_model.specs.Text.{idx_of}
@@ -37,7 +37,6 @@ use Rattle.vobsub_model.specs.Call.{Lent, Found, found, found_for, canvas_in, re
 use Rattle.vobsub_model.specs.Answers.{shown_given, canvas_answer, scratch_of, pixels_of, painted_of, CuePainted}
 use Rattle.vobsub_model.specs.Claim.{Gives, Room, Equal, Exactly}
 use Rattle.vobsub_model.specs.declared.Shown.{Shown}
-use Rattle.vobsub_model.specs.declared.CanvasAnswer.{CanvasAnswer}
 
 -- a unit is found within lent lengths exactly where it is found and they are long enough
 canvas_sound : (u : List ℕ) (n k : ℕ) (l : ListedUnit) → canvas_in u n k ≡ ok l
@@ -168,7 +167,7 @@ module _ (text file : List ℕ) (q : Wanted) where
       let u : x.unit ≡ y.unit = unit-unique (unit_of y.form) x.unit y.unit (subst (λ (z : Form). IsUnit (unit_of z) x.unit) m h.unit_is) k.unit_is in
       λ i. record { text = l i; cue = c i; form = m i; unit = u i }
 
-  module _ (b : Lent) (r : CanvasAnswer) (b' : Lent) (d : CuePainted text file q b r b') where
+  module _ (b : Lent) (r : Res Shown) (b' : Lent) (d : CuePainted text file q b r b') where
     -- a canvas is a reading's
     given-reading : (o : Res Reading) → reading_in text file q b ≡ o → Gives r → (x : Reading) × (reading_in text file q b ≡ ok x)
     given-reading (ok x) e g = (x, e)
@@ -188,14 +187,12 @@ module _ (text file : List ℕ) (q : Wanted) where
           says = shown_given (shown x);
           paints = d.answer ∙ ap canvas_answer e;
           start = refl;
-          lasts = refl;
           duration = refl;
           started = refl;
           stopped = refl;
           start_delay = refl;
           stop_delay = refl;
           show = refl;
-          hides = refl;
           hide = refl;
           x1 = refl;
           y1 = refl;
@@ -231,27 +228,26 @@ module _ (text file : List ℕ) (q : Wanted) where
     }
 
     -- the number of clipped codes, in the grammar's words
-    pub clipped_codes : (s : Shown) → r ≡ CanvasAnswer.Paints s → (x : Reading) → IsReading text file q x
+    pub clipped_codes : (s : Shown) → r ≡ ok s → (x : Reading) → IsReading text file q x
         → s.clipped ≡ clipped_in (width (told_by x)) x.unit.rows
     unfolding shown
     clipped_codes s p x h =
         let e = claim.same x h (subst Gives (sym p) tt) in
-        let z : CanvasAnswer.Paints s ≡ CanvasAnswer.Paints e.says = sym p ∙ e.paints in
+        let z : ok s ≡ ok e.says = sym p ∙ e.paints in
         let y : s ≡ e.says = cc z in
         ap (λ (t : Shown). t.clipped) y ∙ e.clipped
 
     -- whether a start and a stop command stand, and both times
-    pub shown_times_lem : (s : Shown) → r ≡ CanvasAnswer.Paints s → (x : Reading) → IsReading text file q x
+    pub shown_times_lem : (s : Shown) → r ≡ ok s → (x : Reading) → IsReading text file q x
         → (s.started ≡ given (told_by x).starts) × (s.stopped ≡ given (told_by x).stops)
-        × (s.show.0 ≡ time_or0 (show_of x)) × (s.hides ≡ given (hide_of x)) × (s.hide.0 ≡ time_or0 (hide_of x))
+        × (s.show ≡ micros_in (show_of x)) × (s.hide ≡ micros_in (hide_of x))
     unfolding shown
     shown_times_lem s p x h =
         let e = claim.same x h (subst Gives (sym p) tt) in
-        let z : CanvasAnswer.Paints s ≡ CanvasAnswer.Paints e.says = sym p ∙ e.paints in
+        let z : ok s ≡ ok e.says = sym p ∙ e.paints in
         let y : s ≡ e.says = cc z in (
           ap (λ (t : Shown). t.started) y ∙ e.started,
           ap (λ (t : Shown). t.stopped) y ∙ e.stopped,
-          ap (λ (t : Shown). t.show.0) y ∙ e.show,
-          ap (λ (t : Shown). t.hides) y ∙ e.hides,
-          ap (λ (t : Shown). t.hide.0) y ∙ e.hide,
+          ap (λ (t : Shown). t.show) y ∙ e.show,
+          ap (λ (t : Shown). t.hide) y ∙ e.hide,
         )

@@ -30,7 +30,7 @@ use Rattle.spu_model.proofs.Refusals.{rows-with}
 use Rattle.vobsub_model.specs.Call.{Lent, Found, found, found_for, canvas_in, reading, listed_in, reading_in}
 use Rattle.vobsub_model.specs.Answers.{canvas_answer, scratch_of, pixels_of, painted_of, CuePainted}
 use Rattle.vobsub_model.specs.Claim.{Gives}
-use Rattle.vobsub_model.specs.declared.CanvasAnswer.{CanvasAnswer}
+use Rattle.vobsub_model.specs.declared.Shown.{Shown}
 
 -- any number but 41, as after a text that is listed
 abbrev Not41 : ℕ → Type 0
@@ -68,8 +68,8 @@ module _ (text file : List ℕ) (q : Wanted) (b : Lent) where
       (λ x.
       check-numbered Not41 (told_stay (reading_start x) (told_by x)) long_instant (ok x) (after-41 long_instant refl) tt)
 
-  pub call_large : (r : CanvasAnswer) (b' : Lent) → CuePainted text file q b r b'
-      → (r ≡ CanvasAnswer.Refused large_position) ↔ ((ls : List Said) × FirstLarge text ls)
+  pub call_large : (r : Res Shown) (b' : Lent) → CuePainted text file q b r b'
+      → (r ≡ refuse large_position) ↔ ((ls : List Said) × FirstLarge text ls)
   unfolding reading_in listed_in found_for
   call_large r b' d = (
     λ e. to (idx_of text) refl e,
@@ -78,14 +78,14 @@ module _ (text file : List ℕ) (q : Wanted) (b : Lent) where
         d.answer ∙ ap canvas_answer g,
   )
     where
-      another : (x : Res Reading) → RefusedWith Not41 x → CanvasAnswer.Refused large_position ≡ canvas_answer x → ⊥
+      another : (x : Res Reading) → RefusedWith Not41 x → refuse large_position ≡ canvas_answer x → ⊥
       another (ok x) o e = let z : ◌≡◌ {A = ℕ} 0 1 = cc e in omega arith
       another (refuse n) o e = let z : large_position ≡ n = cc e in o (sym z)
 
-      same : (n m : ℕ) → CanvasAnswer.Refused n ≡ CanvasAnswer.Refused m → n ≡ m
+      same : (n m : ℕ) → ◌≡◌ {A = Res Shown} (refuse n) (refuse m) → n ≡ m
       same n m e = cc e
 
-      to : (x : Res ListedText) → idx_of text ≡ x → r ≡ CanvasAnswer.Refused large_position
+      to : (x : Res ListedText) → idx_of text ≡ x → r ≡ refuse large_position
           → (ls : List Said) × FirstLarge text ls
       to (ok t) f e = absurd (another (reading_in text file q b) (reading-others t f) (sym e ∙ d.answer))
       to (refuse n) f e =
@@ -94,12 +94,12 @@ module _ (text file : List ℕ) (q : Wanted) (b : Lent) where
           (text_large text).0 (f ∙ ap refuse (sym z))
 
   -- a text that has such a line anywhere is refused, and nothing is written, not even to scratch
-  pub large_unpainted : LargeIn text → (r : CanvasAnswer) (b' : Lent) → CuePainted text file q b r b'
+  pub large_unpainted : LargeIn text → (r : Res Shown) (b' : Lent) → CuePainted text file q b r b'
       → (Gives r → ⊥) × (b'.scratch ≡ b.scratch) × (b'.pixels ≡ b.pixels) × (b'.canvas ≡ b.canvas)
   unfolding reading_in listed_in found_for
   large_unpainted h r b' d = go (idx_of text) refl
     where
-      none : (n : ℕ) → r ≡ CanvasAnswer.Refused n → Gives r → ⊥
+      none : (n : ℕ) → r ≡ refuse n → Gives r → ⊥
       none n e g = subst Gives e g
 
       go : (x : Res ListedText) → idx_of text ≡ x

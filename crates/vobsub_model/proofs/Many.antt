@@ -4,7 +4,7 @@ use Prim.Native.Nat.{ℕ, ◌*◌, ◌≤◌, ◌<◌}
 use native.Mathlib.Omega.{arith}
 use mathlib.Core.Path.{◌≡◌, sym, ap, ◌∙◌}
 use mathlib.Core.Logic.{◌↔◌, ⊎_elim}
-use mathlib.Core.Option.{some}
+use Rattle.std.specs.Prelude.{Some as some}
 use mathlib.Core.List.{List}
 use lib.Dec.{leb}
 use lib.ListN.{length}
@@ -29,9 +29,9 @@ use Rattle.spu_model.proofs.Refusals.{rows-with}
 use Rattle.spu_model.proofs.Many.{Other, control-is}
 use Rattle.vobsub_model.specs.Call.{Lent, found, found_for, canvas_in, reading, listed_in, reading_in}
 use Rattle.vobsub_model.specs.Answers.{canvas_answer, CuePainted}
-use Rattle.vobsub_model.specs.declared.CanvasAnswer.{CanvasAnswer}
+use Rattle.vobsub_model.specs.declared.Shown.{Shown}
 
-module _ (text file : List ℕ) (q : Wanted) (b : Lent) (r : CanvasAnswer) (b' : Lent) (d : CuePainted text file q b r b')
+module _ (text file : List ℕ) (q : Wanted) (b : Lent) (r : Res Shown) (b' : Lent) (d : CuePainted text file q b r b')
     (t : ListedText) (c : Cue) (m : Form) (bs : List Block)
     (is_text : IsText text t) (stream : q.stream ≤ top_stream) (is_cue : cue_at (cues_of t) q.cue ≡ some c)
     (before : c.position < length file) (is_form : IsForm (wanted_id q) file c.position m) (room : scratch_for m ≤ length b.scratch)
@@ -67,7 +67,7 @@ module _ (text file : List ℕ) (q : Wanted) (b : Lent) (r : CanvasAnswer) (b' :
         and_then-numbered Other (listed_in text file q b) _ listed-others
         (λ x. check-numbered Other (told_stay (reading_start x) (told_by x)) long_instant (ok x) (λ e. omega arith) tt)
 
-  pub many-listed : (r ≡ CanvasAnswer.Refused many_bands) ↔ (most_bands < length (told bs).bands)
+  pub many-listed : (r ≡ refuse many_bands) ↔ (most_bands < length (told bs).bands)
   unfolding reading_in listed_in canvas_in
   many-listed = (
     λ e. ⊎_elim (λ h. absurd (go (reading_in text file q b) (others h) (sym e ∙ d.answer))) (λ h. h) (le_or_lt (length (told bs).bands) most_bands),
@@ -76,6 +76,6 @@ module _ (text file : List ℕ) (q : Wanted) (b : Lent) (r : CanvasAnswer) (b' :
         d.answer ∙ ap canvas_answer g,
   )
     where
-      go : (x : Res Reading) → RefusedWith Other x → CanvasAnswer.Refused many_bands ≡ canvas_answer x → ⊥
+      go : (x : Res Reading) → RefusedWith Other x → refuse many_bands ≡ canvas_answer x → ⊥
       go (ok x) o e = let z : ◌≡◌ {A = ℕ} 0 1 = cc e in omega arith
       go (refuse n) o e = let z : many_bands ≡ n = cc e in o (sym z)

@@ -5,20 +5,20 @@ use native.Mathlib.Numerals.{add-one, add-two, add-three}
 use native.Mathlib.Omega.{arith}
 use mathlib.Core.Path.{◌≡◌, refl, sym, ap, ◌∙◌, subst}
 use mathlib.Core.Bool.{Bool, true, false, cond}
-use mathlib.Core.Option.{Option, some, none}
+use Rattle.std.specs.Prelude.{Option, Some as some, None as none}
 use mathlib.Core.List.{List, [], ◌∷◌, ◌++◌}
 use lib.ListN.{length, get_or, take, drop, set, length-drop, length-set}
 use lib.Dec.{eqb}
-use lib.Seq.{sets, drop-cons, drop-drop, length-sets, length-take-le}
+use lib.Seq.{sets, slice, drop-cons, drop-drop, length-sets, length-take-le}
 use borrow.Author.Tests.{ne_eqb}
 use Rattle.grammar.proofs.Lengths.{line-length}
-use Rattle.outcome.proofs.Laws.{sets-append}
+use Rattle.outcome.proofs.Laws.{sets-append, part_slice}
 use Rattle.grammar.specs.Look.{Look}
 use Rattle.grammar.specs.Canvas.{nibble_of, coloured, pixel, or_own, line_bytes}
 use Rattle.bands_model.specs.Look.{told, look_words, spans_line}
-use Rattle.bands_model.specs.declared.LookAnswer.{LookAnswer}
+use Rattle.bands_model.specs.declared.Four.{Four}
 use Rattle.bands_model.proofs.Look.{look-unspanned}
-use Rattle.vobsub_model.specs.Paint.{look_is, word_look, four_colours, table_line, map_canvas}
+use Rattle.vobsub_model.specs.Paint.{look_is, word_look, SameLook, four_colours, table_line, map_canvas}
 
 -- ---- A pixel
 
@@ -52,9 +52,6 @@ quad palette l c = go (eqb (nibble_of l.alphas c) 0)
     go : (t : Bool) → Quad (cond t (0 ∷ 0 ∷ 0 ∷ 0 ∷ []) (get_or palette (3 * k) 0 ∷ get_or palette (3 * k + 1) 0 ∷ get_or palette (3 * k + 2) 0 ∷ nibble_of l.alphas c * 17 ∷ []))
     go true = record { a = 0; b = 0; d = 0; e = 0; is = refl }
     go false = record { a = get_or palette (3 * k) 0; b = get_or palette (3 * k + 1) 0; d = get_or palette (3 * k + 2) 0; e = nibble_of l.alphas c * 17; is = refl }
-
-pub quad_gives : (l : List ℕ) → Quad l → get_or l 0 0 ∷ get_or l 1 0 ∷ get_or l 2 0 ∷ get_or l 3 0 ∷ [] ≡ l
-quad_gives l q = rw q.is
 
 -- ---- Four colours
 
@@ -116,13 +113,13 @@ pub line-own : (ws : List ℕ) (own : Look) (y : ℕ) → spans_line y ws ≡ fa
 line-own ws own y h z = rw (look-unspanned z y ws h)
 
 -- what an answer of the lookup says
-module _ (ws : List ℕ) (own : Look) (x y : ℕ) (r : LookAnswer) (q : told r ≡ look_words x y ws) where
-  pub look-found : (s a : ℕ) → r ≡ LookAnswer.Found s a → (s ≡ (word_look ws own x y).selectors) × (a ≡ (word_look ws own x y).alphas)
-  look-found s a e =
-      let f : look_words x y ws ≡ some (look_is s a) = sym q ∙ ap told e in
-      (ap (λ (o : Option Look). (or_own own o).selectors) (sym f), ap (λ (o : Option Look). (or_own own o).alphas) (sym f))
+module _ (ws : List ℕ) (own : Look) (x y : ℕ) (r : Option Four) (q : told r ≡ look_words x y ws) where
+  pub look-found : (f : Four) → r ≡ some f → SameLook f (word_look ws own x y)
+  look-found f e =
+      let g : look_words x y ws ≡ some (look_is f.selectors f.alphas) = sym q ∙ ap told e in
+      (ap (λ (o : Option Look). (or_own own o).selectors) (sym g), ap (λ (o : Option Look). (or_own own o).alphas) (sym g))
 
-  pub look_none : r ≡ LookAnswer.Nothing → (own.selectors ≡ (word_look ws own x y).selectors) × (own.alphas ≡ (word_look ws own x y).alphas)
+  pub look_none : r ≡ none → (own.selectors ≡ (word_look ws own x y).selectors) × (own.alphas ≡ (word_look ws own x y).alphas)
   look_none e =
       let f : look_words x y ws ≡ none = sym q ∙ ap told e in
       (ap (λ (o : Option Look). (or_own own o).selectors) (sym f), ap (λ (o : Option Look). (or_own own o).alphas) (sym f))
@@ -135,48 +132,63 @@ room_2 l i a b h = rw (length-set (set l i a) (i + 1) b, length-set l i a) (omeg
 pub room_3 : (l : List ℕ) (i a b d : ℕ) → i + 4 ≤ length l → i + 3 < length (set (set (set l i a) (i + 1) b) (i + 2) d)
 room_3 l i a b d h = rw (length-set (set (set l i a) (i + 1) b) (i + 2) d, length-set (set l i a) (i + 1) b, length-set l i a) (omega arith)
 
-pub four_stores : (l : List ℕ) (i a b d e : ℕ) → set (set (set (set l i a) (i + 1) b) (i + 2) d) (i + 3) e ≡ sets l i (a ∷ b ∷ d ∷ e ∷ [])
+four_stores : (l : List ℕ) (i a b d e : ℕ) → set (set (set (set l i a) (i + 1) b) (i + 2) d) (i + 3) e ≡ sets l i (a ∷ b ∷ d ∷ e ∷ [])
 four_stores l i a b d e = rw (add-one i, add-two i, add-three i)
+
+-- a list of four
+four_of : (p : List ℕ) → length p ≡ 4 → get_or p 0 0 ∷ get_or p 1 0 ∷ get_or p 2 0 ∷ get_or p 3 0 ∷ [] ≡ p
+four_of [] e = absurd (omega (arith, e))
+four_of (a ∷ []) e = absurd (omega (arith, e))
+four_of (a ∷ b ∷ []) e = absurd (omega (arith, e))
+four_of (a ∷ b ∷ d ∷ []) e = absurd (omega (arith, e))
+four_of (a ∷ b ∷ d ∷ e ∷ []) q = refl
+four_of (a ∷ b ∷ d ∷ e ∷ f ∷ l) q = absurd (omega (arith, q))
+
+pub pixel_stored : (l : List ℕ) (i : ℕ) (p : List ℕ) → length p ≡ 4
+    → set (set (set (set l i (get_or p 0 0)) (i + 1) (get_or p 1 0)) (i + 2) (get_or p 2 0)) (i + 3) (get_or p 3 0) ≡ sets l i p
+pixel_stored l i p e = four_stores l i _ _ _ _ ∙ ap (sets l i) (four_of p e)
 
 sets-four : (s : List ℕ) (i a b d e : ℕ) (l : List ℕ) → sets s i (a ∷ b ∷ d ∷ e ∷ l) ≡ sets (sets s i (a ∷ b ∷ d ∷ e ∷ [])) (i + 4) l
 sets-four s i a b d e l = sets-append s i (a ∷ b ∷ d ∷ e ∷ []) l
 
 module _ (line : ℕ → List ℕ → List ℕ) (row s₀ : List ℕ) (at : ℕ) where
   -- with i pixels painted: what is left gives the whole
-  pub record Painting (i to : ℕ) (s : List ℕ) : Type 0 where
+  pub record Painting (i : ℕ) (s : List ℕ) : Type 0 where
     pub inside : i ≤ length row
-    pub place : to ≡ at + 4 * i
     pub long : length s ≡ length s₀
-    pub goes : sets s to (line i (drop i row)) ≡ sets s₀ at (line 0 row)
+    pub goes : sets s (at + 4 * i) (line i (drop i row)) ≡ sets s₀ at (line 0 row)
 
-  pub painting-starts : Painting 0 at s₀
-  painting-starts = record { inside = omega arith; place = omega arith; long = refl; goes = refl }
+  pub painting-starts : Painting 0 s₀
+  painting-starts =
+      let z : at + 4 * 0 ≡ at = omega arith in
+      record { inside = omega arith; long = refl; goes = ap (λ (t : ℕ). sets s₀ t (line 0 row)) z }
 
-  pub painting_goes : (i to : ℕ) (s : List ℕ) → Painting i to s → i < length row → (p : List ℕ) → Quad p
+  pub painting_goes : (i : ℕ) (s : List ℕ) → Painting i s → i < length row → (p : List ℕ) → Quad p
       → line i (get_or row i 0 ∷ drop (suc i) row) ≡ p ++ line (i + 1) (drop (suc i) row)
-      → (s' : List ℕ) → s' ≡ sets s to p → Painting (i + 1) (to + 4) s'
-  painting_goes i to s h k p q e s' f =
+      → (s' : List ℕ) → s' ≡ sets s (at + 4 * i) p → Painting (i + 1) s'
+  painting_goes i s h k p q e s' f =
       let z : suc i ≡ i + 1 = omega arith in
+      let v : at + 4 * (i + 1) ≡ at + 4 * i + 4 = omega arith in
       let n : i < length row = k in
       record {
         inside = omega arith;
-        place = omega (arith, h.place);
-        long = ap length f ∙ length-sets s to p ∙ h.long;
+        long = ap length f ∙ length-sets s (at + 4 * i) p ∙ h.long;
         goes =
-            ap (λ (l : List ℕ). sets l (to + 4) (line (i + 1) (drop (i + 1) row))) (f ∙ ap (sets s to) q.is)
-            ∙ sym (sets-four s to q.a q.b q.d q.e (line (i + 1) (drop (i + 1) row)))
-            ∙ ap (λ (l : List ℕ). sets s to (l ++ line (i + 1) (drop (i + 1) row))) (sym q.is)
-            ∙ ap (λ (j : ℕ). sets s to (p ++ line (i + 1) (drop j row))) (sym z)
-            ∙ ap (sets s to) (sym e)
-            ∙ ap (λ (l : List ℕ). sets s to (line i l)) (sym (drop-cons row i 0 k))
+            ap (λ (t : ℕ). sets s' t (line (i + 1) (drop (i + 1) row))) v
+            ∙ ap (λ (l : List ℕ). sets l (at + 4 * i + 4) (line (i + 1) (drop (i + 1) row))) (f ∙ ap (sets s (at + 4 * i)) q.is)
+            ∙ sym (sets-four s (at + 4 * i) q.a q.b q.d q.e (line (i + 1) (drop (i + 1) row)))
+            ∙ ap (λ (l : List ℕ). sets s (at + 4 * i) (l ++ line (i + 1) (drop (i + 1) row))) (sym q.is)
+            ∙ ap (λ (j : ℕ). sets s (at + 4 * i) (p ++ line (i + 1) (drop j row))) (sym z)
+            ∙ ap (sets s (at + 4 * i)) (sym e)
+            ∙ ap (λ (l : List ℕ). sets s (at + 4 * i) (line i l)) (sym (drop-cons row i 0 k))
             ∙ h.goes;
       }
 
-  pub painting_ends : (i to : ℕ) (s : List ℕ) → Painting i to s → length row ≤ i → line i [] ≡ [] → s ≡ sets s₀ at (line 0 row)
-  painting_ends i to s h k e = go (drop i row) (length-drop i row) h.goes
+  pub painting_ends : (i : ℕ) (s : List ℕ) → Painting i s → length row ≤ i → line i [] ≡ [] → s ≡ sets s₀ at (line 0 row)
+  painting_ends i s h k e = go (drop i row) (length-drop i row) h.goes
     where
-      go : (l : List ℕ) → length l ≡ length row - i → sets s to (line i l) ≡ sets s₀ at (line 0 row) → s ≡ sets s₀ at (line 0 row)
-      go [] n f = ap (sets s to) (sym e) ∙ f
+      go : (l : List ℕ) → length l ≡ length row - i → sets s (at + 4 * i) (line i l) ≡ sets s₀ at (line 0 row) → s ≡ sets s₀ at (line 0 row)
+      go [] n f = ap (sets s (at + 4 * i)) (sym e) ∙ f
       go (x ∷ l) n f = absurd (omega (arith, n))
 
 -- from four colours
@@ -199,15 +211,15 @@ module _ (palette : List ℕ) (look : ℕ → ℕ → Look) (x y : ℕ) where
   abbrev pub line_from : ℕ → List ℕ → List ℕ
   line_from i cs = line_bytes palette look (x + i) y cs
 
-  pub line-is : (i z c : ℕ) (cs : List ℕ) (s a : ℕ) (p : List ℕ) → z ≡ x + i → (s ≡ (look z y).selectors) × (a ≡ (look z y).alphas) → p ≡ pixel palette (look_is s a) c
-      → line_from i (c ∷ cs) ≡ (get_or p 0 0 ∷ get_or p 1 0 ∷ get_or p 2 0 ∷ get_or p 3 0 ∷ []) ++ line_from (i + 1) cs
+  pub line-is : (i c : ℕ) (cs : List ℕ) (s a : ℕ) (p : List ℕ) → (s ≡ (look (x + i) y).selectors) × (a ≡ (look (x + i) y).alphas) → p ≡ pixel palette (look_is s a) c
+      → line_from i (c ∷ cs) ≡ p ++ line_from (i + 1) cs
   unfolding line_bytes
-  line-is i z c cs s a p q h e =
+  line-is i c cs s a p h e =
       let v : x + i + 1 ≡ x + (i + 1) = omega arith in
-      let l : look_is s a ≡ look (x + i) y = (λ t. record { selectors = h.0 t; alphas = h.1 t }) ∙ ap (λ (w : ℕ). look w y) q in
+      let l : look_is s a ≡ look (x + i) y = λ t. record { selectors = h.0 t; alphas = h.1 t } in
       let f : p ≡ pixel palette (look (x + i) y) c = e ∙ ap (λ (k : Look). pixel palette k c) l in
       ap (λ (w : ℕ). pixel palette (look (x + i) y) c ++ line_bytes palette look w y cs) v
-      ∙ ap (λ (w : List ℕ). w ++ line_from (i + 1) cs) (sym (quad_gives p (subst Quad (sym f) (quad palette (look (x + i) y) c)) ∙ f))
+      ∙ ap (λ (w : List ℕ). w ++ line_from (i + 1) cs) (sym f)
 
   pub line-done : (i : ℕ) → line_from i [] ≡ []
   unfolding line_bytes
@@ -217,8 +229,9 @@ module _ (palette : List ℕ) (look : ℕ → ℕ → Look) (x y : ℕ) where
   pub line-whole : (cs : List ℕ) → line_from 0 cs ≡ line_bytes palette look x y cs
   line-whole cs = let z : x + 0 ≡ x = omega arith in rw z
 
-pub quad_of : (p : List ℕ) → Quad (get_or p 0 0 ∷ get_or p 1 0 ∷ get_or p 2 0 ∷ get_or p 3 0 ∷ [])
-quad_of p = record { a = get_or p 0 0; b = get_or p 1 0; d = get_or p 2 0; e = get_or p 3 0; is = refl }
+-- the bytes of a pixel are four
+pub quad_of : (palette : List ℕ) (s a c : ℕ) (p : List ℕ) → p ≡ pixel palette (look_is s a) c → Quad p
+quad_of palette s a c p e = subst Quad (sym e) (quad palette (look_is s a) c)
 
 -- ---- Lines
 
@@ -228,44 +241,47 @@ line-room w h r k = let m : suc r * w ≤ h * w = mul-le-mul_right w k in omega 
 
 module _ (palette : List ℕ) (look : ℕ → ℕ → Look) (x y w h : ℕ) (m s₀ : List ℕ) where
   -- with r lines painted: the lines left give the whole
-  pub record Lines (r from : ℕ) (s : List ℕ) : Type 0 where
+  pub record Lines (r : ℕ) (s : List ℕ) : Type 0 where
     pub inside : r ≤ h
-    pub place : from ≡ r * w
     pub long : length s ≡ length s₀
-    pub goes : sets s (4 * from) (map_canvas palette look x (y + r) w (h - r) (drop from m)) ≡ sets s₀ 0 (map_canvas palette look x y w h m)
+    pub goes : sets s (4 * (r * w)) (map_canvas palette look x (y + r) w (h - r) (drop (r * w) m)) ≡ sets s₀ 0 (map_canvas palette look x y w h m)
 
-  pub lines_start : Lines 0 0 s₀
+  pub lines_start : Lines 0 s₀
   lines_start =
       let z : y + 0 ≡ y = omega arith in
       let n : h - 0 ≡ h = omega arith in
-      record { inside = omega arith; place = omega arith; long = refl; goes = rw (z, n) }
+      let o : 0 * w ≡ 0 = omega arith in
+      record { inside = omega arith; long = refl; goes = rw (z, n, o) }
 
-  pub lines-go : (r from : ℕ) (s : List ℕ) → Lines r from s → r < h → from + w ≤ length m
-      → (s' : List ℕ) → s' ≡ sets s (4 * from) (line_bytes palette look x (y + r) (take (from + w - from) (drop from m))) → Lines (r + 1) (from + w) s'
+  pub lines-go : (r : ℕ) (s : List ℕ) → Lines r s → r < h → r * w + w ≤ length m
+      → (c : List ℕ) → c ≡ slice (r * w) (r * w + w) m
+      → (s' : List ℕ) → s' ≡ sets s (4 * (r * w)) (line_bytes palette look x (y + r) c) → Lines (r + 1) s'
   unfolding map_canvas
-  lines-go r from s k l i s' f =
+  lines-go r s k l i c o s' f =
       let n : h - r ≡ suc (h - (r + 1)) = omega arith in
-      let j : from + w - from ≡ w = omega arith in
-      let line : List ℕ = line_bytes palette look x (y + r) (take w (drop from m)) in
-      let g : s' ≡ sets s (4 * from) line = f ∙ ap (λ (t : ℕ). sets s (4 * from) (line_bytes palette look x (y + r) (take t (drop from m)))) j in
-      let q : 4 * from + length line ≡ 4 * (from + w) =
-      ap (λ (t : ℕ). 4 * from + t) (line-length palette look x (y + r) (take w (drop from m)) ∙ ap (λ (t : ℕ). 4 * t) (length-take-le w (drop from m) (rw (length-drop from m) (omega arith)))) ∙ omega arith in
+      let j : r * w + w - r * w ≡ w = omega arith in
+      let row : c ≡ take w (drop (r * w) m) = o ∙ sym (part_slice (r * w) (r * w + w) m) ∙ ap (λ (t : ℕ). take t (drop (r * w) m)) j in
+      let line : List ℕ = line_bytes palette look x (y + r) (take w (drop (r * w) m)) in
+      let left : List ℕ = map_canvas palette look x (y + (r + 1)) w (h - (r + 1)) (drop (r * w + w) m) in
+      let g : s' ≡ sets s (4 * (r * w)) line = f ∙ ap (λ (t : List ℕ). sets s (4 * (r * w)) (line_bytes palette look x (y + r) t)) row in
+      let q : 4 * (r * w) + length line ≡ 4 * (r * w + w) =
+      ap (λ (t : ℕ). 4 * (r * w) + t) (line-length palette look x (y + r) (take w (drop (r * w) m)) ∙ ap (λ (t : ℕ). 4 * t) (length-take-le w (drop (r * w) m) (rw (length-drop (r * w) m) (omega arith)))) ∙ omega arith in
       let v : y + r + 1 ≡ y + (r + 1) = omega arith in
-      let p = k.place in
+      let e : (r + 1) * w ≡ r * w + w = omega arith in
       record {
         inside = omega arith;
-        place = omega (arith, p);
-        long = ap length g ∙ length-sets s (4 * from) line ∙ k.long;
+        long = ap length g ∙ length-sets s (4 * (r * w)) line ∙ k.long;
         goes =
-            ap (λ (t : List ℕ). sets t (4 * (from + w)) (map_canvas palette look x (y + (r + 1)) w (h - (r + 1)) (drop (from + w) m))) g
-            ∙ ap (λ (t : ℕ). sets (sets s (4 * from) line) t (map_canvas palette look x (y + (r + 1)) w (h - (r + 1)) (drop (from + w) m))) (sym q)
-            ∙ sym (sets-append s (4 * from) line (map_canvas palette look x (y + (r + 1)) w (h - (r + 1)) (drop (from + w) m)))
-            ∙ ap (λ (t : ℕ). sets s (4 * from) (line ++ map_canvas palette look x t w (h - (r + 1)) (drop (from + w) m))) (sym v)
-            ∙ ap (λ (t : List ℕ). sets s (4 * from) (line ++ map_canvas palette look x (y + r + 1) w (h - (r + 1)) t)) (sym (drop-drop w from m))
-            ∙ ap (λ (t : ℕ). sets s (4 * from) (map_canvas palette look x (y + r) w t (drop from m))) (sym n)
+            ap (λ (t : ℕ). sets s' (4 * t) (map_canvas palette look x (y + (r + 1)) w (h - (r + 1)) (drop t m))) e
+            ∙ ap (λ (t : List ℕ). sets t (4 * (r * w + w)) left) g
+            ∙ ap (λ (t : ℕ). sets (sets s (4 * (r * w)) line) t left) (sym q)
+            ∙ sym (sets-append s (4 * (r * w)) line left)
+            ∙ ap (λ (t : ℕ). sets s (4 * (r * w)) (line ++ map_canvas palette look x t w (h - (r + 1)) (drop (r * w + w) m))) (sym v)
+            ∙ ap (λ (t : List ℕ). sets s (4 * (r * w)) (line ++ map_canvas palette look x (y + r + 1) w (h - (r + 1)) t)) (sym (drop-drop w (r * w) m))
+            ∙ ap (λ (t : ℕ). sets s (4 * (r * w)) (map_canvas palette look x (y + r) w t (drop (r * w) m))) (sym n)
             ∙ k.goes;
       }
 
-  pub lines_end : (r from : ℕ) (s : List ℕ) → Lines r from s → h ≤ r → s ≡ sets s₀ 0 (map_canvas palette look x y w h m)
+  pub lines_end : (r : ℕ) (s : List ℕ) → Lines r s → h ≤ r → s ≡ sets s₀ 0 (map_canvas palette look x y w h m)
   unfolding map_canvas
-  lines_end r from s k l = let n : h - r ≡ 0 = omega arith in ap (λ (t : ℕ). sets s (4 * from) (map_canvas palette look x (y + r) w t (drop from m))) (sym n) ∙ k.goes
+  lines_end r s k l = let n : h - r ≡ 0 = omega arith in ap (λ (t : ℕ). sets s (4 * (r * w)) (map_canvas palette look x (y + r) w t (drop (r * w) m))) (sym n) ∙ k.goes

@@ -2,7 +2,7 @@
 -- the same readings, the same answer and the same buffers. Assumes nothing.
 use Prim.Native.Nat.{ℕ}
 use mathlib.Core.Path.{◌≡◌, sym, ap, ◌∙◌}
-use mathlib.Core.Option.{some}
+use Rattle.std.specs.Prelude.{Some as some}
 use mathlib.Core.List.{List, []}
 use lib.ListN.{length}
 use lib.Seq.{sets}
@@ -21,7 +21,7 @@ use Rattle.clock_model.specs.Clock.{told_stay, in_time}
 use Rattle.vobsub_model.specs.Call.{Lent, Found, found, found_for, canvas_in, reading, listed_in, reading_in}
 use Rattle.vobsub_model.specs.Answers.{canvas_answer, scratch_of, pixels_of, painted_of, CuePainted}
 use Rattle.vobsub_model.specs.Claim.{Undisturbed}
-use Rattle.vobsub_model.specs.declared.CanvasAnswer.{CanvasAnswer}
+use Rattle.vobsub_model.specs.declared.Shown.{Shown}
 
 module _ (text file other : List ℕ) (q : Wanted) (index : ListedText) (c : Cue) (ps : List Packet)
     (text_is : IsText text index) (cue : cue_at (cues_of index) q.cue ≡ some c)
@@ -42,7 +42,7 @@ module _ (text file other : List ℕ) (q : Wanted) (index : ListedText) (c : Cue
       (and_then x (λ f. map_res (reading q f) (canvas_in (unit_of f.form) (length b.pixels) (length b.canvas)))))
       (found-same (length b.scratch))
 
-pub undisturbed : (text file : List ℕ) (q : Wanted) (b : Lent) (r : CanvasAnswer) (b' : Lent)
+pub undisturbed : (text file : List ℕ) (q : Wanted) (b : Lent) (r : Res Shown) (b' : Lent)
     → CuePainted text file q b r b' → Undisturbed text file q b r b'
 undisturbed text file q b r b' x other index c ps l e w a t b'' y =
     let f = found-same text file other q index c ps l e w a (length b.scratch) in

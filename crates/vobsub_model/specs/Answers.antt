@@ -1,26 +1,25 @@
 -- What each answer of the code means, and what the lent buffers hold after a call (FORMAT 6.5, 6.6). Assumes nothing: these are definitions.
-use Rattle.std.specs.Prelude.{ℕ, ◌+◌, ◌-◌, ◌≡◌, cond, List, [], eqb, leb, ℤ, pos, length}
+use Rattle.std.specs.Prelude.{ℕ, ◌+◌, ◌-◌, ◌≡◌, cond, List, [], eqb, leb, ℤ, length}
 use Rattle.std.proofs.lemmas.List.Edits.{sets}
 use Rattle.outcome.specs.Outcome.{Res, ok, refuse, bad_stream, no_cue, long_instant}
 use Rattle.grammar.specs.Rows.{Code}
 use Rattle.grammar.specs.Packets.{top_stream}
-use Rattle.grammar.specs.Record.{Told, told, given}
+use Rattle.grammar.specs.Record.{Told, told}
 use Rattle.grammar.specs.Times.{show_time, hide_time}
 use Rattle.grammar.specs.Picture.{ListedUnit}
 use Rattle.grammar.specs.Reading.{Wanted, Reading, shown, map_of, unit_canvas, canvas_of}
 use Rattle.grammar.specs.Reading as GrammarReading
-use Rattle.clock_model.specs.Answers.{ticks, micros, time_or0, times_of}
+use Rattle.clock_model.specs.Answers.{ticks, micros, micros_in, times_of}
 use Rattle.clock_model.specs.declared.Times.{Times}
 use Rattle.control_model.specs.Answers.{spu_of}
 use Rattle.control_model.specs.declared.Spu.{Spu}
-use Rattle.idx_model.specs.Answers.{or_zero}
+use Rattle.idx_model.specs.Answers.{duration_in}
 use Rattle.idx_model.specs.declared.CueAnswer.{CueAnswer}
 use Rattle.ps_model.specs.Answers.{form_stored}
 use Rattle.spu_model.specs.Unit.{counts_of}
 use Rattle.spu_model.specs.Answers.{unit_map}
 use Rattle.vobsub_model.specs.Call.{Lent, Found, found_for, timed_in, reading_in}
 use Rattle.vobsub_model.specs.declared.Shown.{Shown}
-use Rattle.vobsub_model.specs.declared.CanvasAnswer.{CanvasAnswer}
 
 -- ---- A unit
 
@@ -38,14 +37,12 @@ abbrev pub shown_of : CueAnswer → Spu → Times → Shown
 shown_of c s t =
     record {
       start = c.start;
-      has_duration = c.has_duration;
       duration = c.duration;
       started = s.started;
       stopped = s.stopped;
       start_delay = s.start_delay_raw;
       stop_delay = s.stop_delay_raw;
       show = t.show;
-      hides = t.hides;
       hide = t.hide;
       x1 = s.x1;
       y1 = s.y1;
@@ -56,11 +53,11 @@ shown_of c s t =
     }
 
 -- what is shown of a unit as the cue c
-abbrev pub paints_of : CueAnswer → Res ListedUnit → CanvasAnswer
+abbrev pub paints_of : CueAnswer → Res ListedUnit → Res Shown
 paints_of c (ok l) =
-    CanvasAnswer.Paints
+    ok
     (shown_of c (spu_of (told l.blocks) (counts_of l)) (times_told c.start.0 (told l.blocks)))
-paints_of c (refuse n) = CanvasAnswer.Refused n
+paints_of c (refuse n) = refuse n
 
 -- the refusal of a unit whose times leave: that of its rows, 25 or 26, comes first
 abbrev pub late_refusal : Res (List (List Code)) → ℕ
@@ -68,7 +65,7 @@ late_refusal (ok rs) = long_instant
 late_refusal (refuse n) = n
 
 -- what painting the unit u of the cue c leaves: on a refusal nothing is stored
-pub record UnitPainted (u : List ℕ) (c : CueAnswer) (px cv : List ℕ) (r : CanvasAnswer) (px' cv' : List ℕ) : Type 0 where
+pub record UnitPainted (u : List ℕ) (c : CueAnswer) (px cv : List ℕ) (r : Res Shown) (px' cv' : List ℕ) : Type 0 where
   pub answer : r ≡ paints_of c (timed_in c.start.0 u (length px) (length cv))
   pub pixels : px' ≡ sets px 0 (unit_map (timed_in c.start.0 u (length px) (length cv)))
   pub canvas : cv' ≡ sets cv 0 (canvas_stored c.palette (timed_in c.start.0 u (length px) (length cv)))
@@ -85,15 +82,13 @@ unfoldable pub shown_given : GrammarReading.Shown → Shown
 shown_given g =
     record {
       start = micros g.start;
-      has_duration = given g.duration;
-      duration = micros (pos (or_zero g.duration));
+      duration = duration_in g.duration;
       started = g.started;
       stopped = g.stopped;
       start_delay = ticks g.start_delay;
       stop_delay = ticks g.stop_delay;
-      show = micros (time_or0 g.show);
-      hides = given g.hide;
-      hide = micros (time_or0 g.hide);
+      show = micros_in g.show;
+      hide = micros_in g.hide;
       x1 = g.x1;
       y1 = g.y1;
       width = g.width;
@@ -102,9 +97,9 @@ shown_given g =
       clipped = g.clipped;
     }
 
-abbrev pub canvas_answer : Res Reading → CanvasAnswer
-canvas_answer (ok r) = CanvasAnswer.Paints (shown_given (shown r))
-canvas_answer (refuse n) = CanvasAnswer.Refused n
+abbrev pub canvas_answer : Res Reading → Res Shown
+canvas_answer (ok r) = ok (shown_given (shown r))
+canvas_answer (refuse n) = refuse n
 
 -- what each buffer gets: scratch as soon as the unit is found, the others from a whole reading
 abbrev pub scratch_of : Res Found → List ℕ
@@ -121,7 +116,7 @@ painted_of (refuse n) = []
 
 -- the answer, and what the three buffers hold: on a refusal as found, but for the front of scratch after a unit was
 -- joined there
-pub record CuePainted (text file : List ℕ) (q : Wanted) (b : Lent) (r : CanvasAnswer) (b' : Lent) : Type 0 where
+pub record CuePainted (text file : List ℕ) (q : Wanted) (b : Lent) (r : Res Shown) (b' : Lent) : Type 0 where
   pub answer : r ≡ canvas_answer (reading_in text file q b)
   pub in_scratch : b'.scratch ≡ sets b.scratch 0 (scratch_of (found_for text file q (length b.scratch)))
   pub in_pixels : b'.pixels ≡ sets b.pixels 0 (pixels_of (reading_in text file q b))

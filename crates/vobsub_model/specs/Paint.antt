@@ -3,7 +3,7 @@ use Rattle.std.specs.Prelude.{ℕ, zero, suc, ◌+◌, ◌*◌, min, ◌≡◌, 
 use Rattle.grammar.specs.Look.{Look}
 use Rattle.grammar.specs.Canvas.{pixel, or_own, line_bytes}
 use Rattle.bands_model.specs.Look.{look_words}
-use Rattle.vobsub_model.specs.declared.Four.{Four}
+use Rattle.bands_model.specs.declared.Four.{Four}
 
 abbrev pub look_is : ℕ → ℕ → Look
 look_is s a = record { selectors = s; alphas = a }

@@ -4,6 +4,7 @@ use mathlib.Core.Path.{◌≡◌, refl}
 use mathlib.Core.Bool.{true, false}
 use mathlib.Core.List.{[], ◌∷◌}
 use lib.IntN.{pos, negsuc}
+use Rattle.std.specs.Prelude.{Some as some}
 use Rattle.clock_model.specs.Answers.{ticks, micros}
 use Rattle.vobsub_model.specs.declared.Shown.{Shown}
 use Rattle.vobsub_numbers.specs.Numbers.{shown_numbers, shown_times}
@@ -12,15 +13,13 @@ abbrev one : Shown
 one =
     record {
       start = micros (negsuc 6);
-      has_duration = true;
-      duration = micros (pos 2);
+      duration = some (micros (pos 2));
       started = true;
       stopped = false;
       start_delay = ticks 3;
       stop_delay = ticks 4;
-      show = micros (pos 8);
-      hides = true;
-      hide = micros (pos 9);
+      show = some (micros (pos 8));
+      hide = some (micros (pos 9));
       x1 = 5;
       y1 = 6;
       width = 7;

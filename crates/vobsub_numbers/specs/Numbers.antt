@@ -1,10 +1,25 @@
 -- Numbers of records and answers put into the order of include/vobsub.h. Assumes nothing: these are definitions.
-use Rattle.std.specs.Prelude.{ℕ, List, [], ◌∷◌, cond, ℤ}
+use Rattle.std.specs.Prelude.{ℕ, List, [], ◌∷◌, cond, ℤ, pos, Option, Some as some, None as none}
 use Rattle.clock_model.specs.Answers.{micros_count}
+use Rattle.clock_model.specs.declared.Micros.{Micros}
 use Rattle.control_model.specs.declared.Spu.{Spu}
 use Rattle.idx_model.specs.declared.IdxAnswer.{IdxAnswer}
 use Rattle.idx_model.specs.declared.CueAnswer.{CueAnswer}
 use Rattle.vobsub_model.specs.declared.Shown.{Shown}
+
+-- 1 for a time that is there
+abbrev pub there : Option Micros → ℕ
+there none = 0
+there (some m) = 1
+
+-- its microseconds, 0 where there is none
+abbrev pub count_in : Option Micros → ℕ
+count_in none = 0
+count_in (some m) = micros_count m.0
+
+abbrev pub time_in : Option Micros → ℤ
+time_in none = pos 0
+time_in (some m) = m.0
 
 -- the numbers of a record in the order of include/vobsub.h
 abbrev pub spu_numbers : Spu → List ℕ
@@ -18,16 +33,16 @@ idx_numbers a = a.width ∷ a.height ∷ cond a.has_palette 1 0 ∷ a.cues ∷ [
 -- position, whether there is a duration, the duration, and whether there is a palette in the order of include/vobsub.h
 abbrev pub cue_numbers : CueAnswer → List ℕ
 cue_numbers a =
-    a.position ∷ cond a.has_duration 1 0 ∷ micros_count a.duration.0 ∷ cond a.has_palette 1 0 ∷ []
+    a.position ∷ there a.duration ∷ count_in a.duration ∷ cond a.has_palette 1 0 ∷ []
 
 -- whether there is a duration, the duration, the delays, the place, the size, the number of codes and that of clipped
 -- ones, and whether a start and a stop command stand and there is a hide time, in the order of include/vobsub.h
 abbrev pub shown_numbers : Shown → List ℕ
 shown_numbers s =
-    cond s.has_duration 1 0 ∷ micros_count s.duration.0 ∷ s.start_delay.0 ∷ s.stop_delay.0
+    there s.duration ∷ count_in s.duration ∷ s.start_delay.0 ∷ s.stop_delay.0
     ∷ s.x1 ∷ s.y1 ∷ s.width ∷ s.height ∷ s.codes ∷ s.clipped
-    ∷ cond s.started 1 0 ∷ cond s.stopped 1 0 ∷ cond s.hides 1 0 ∷ []
+    ∷ cond s.started 1 0 ∷ cond s.stopped 1 0 ∷ there s.hide ∷ []
 
 -- start, show time and hide time in the order of include/vobsub.h
 abbrev pub shown_times : Shown → List ℤ
-shown_times s = s.start.0 ∷ s.show.0 ∷ s.hide.0 ∷ []
+shown_times s = s.start.0 ∷ time_in s.show ∷ time_in s.hide ∷ []

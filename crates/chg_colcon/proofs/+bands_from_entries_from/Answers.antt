@@ -62,45 +62,45 @@ pub entries_from-returns-then-deep-eq0 : goal.entries_from-returns-then-deep-eq0
 entries_from-returns-then-deep-eq0 t c = goes_none c.args.p.now c.args.deep c.args.left c.args.lo c.args.at _ c.args.out.now c.if-deep-eq0.true (rest-entries _ _ _ (λ e. omega arith))
 
 pub entries_from-put3-requires : goal.entries_from-put3-requires
-entries_from-put3-requires t c = omega (arith, entry-room c.args.p.now c.args.lo _ _ _ (sym c.in-Got.ensures))
+entries_from-put3-requires t c = omega (arith, entry-room c.args.p.now c.args.lo _ _ _ (sym c.in-Some.ensures))
 
 pub entries_from-slice_bounds-bands_from-count : goal.entries_from-slice_bounds-bands_from-count
-entries_from-slice_bounds-bands_from-count t c = entry-room c.args.p.now c.args.lo _ _ _ (sym c.in-Got.ensures)
+entries_from-slice_bounds-bands_from-count t c = entry-room c.args.p.now c.args.lo _ _ _ (sym c.in-Some.ensures)
 
 pub entries_from-slice_bounds-bands_from-start : goal.entries_from-slice_bounds-bands_from-start
-entries_from-slice_bounds-bands_from-start t c = entry-room c.args.p.now c.args.lo _ _ _ (sym c.in-Got.ensures)
+entries_from-slice_bounds-bands_from-start t c = entry-room c.args.p.now c.args.lo _ _ _ (sym c.in-Some.ensures)
 
 pub entries_from-overflow_add-at : goal.entries_from-overflow_add-at
-entries_from-overflow_add-at t c = omega (arith, entry-room c.args.p.now c.args.lo _ _ _ (sym c.in-Got.ensures))
+entries_from-overflow_add-at t c = omega (arith, entry-room c.args.p.now c.args.lo _ _ _ (sym c.in-Some.ensures))
 
 pub entries_from-bands_from-requires : goal.entries_from-bands_from-requires
-entries_from-bands_from-requires t c = let h : 6 ≤ length c.args.p.now = entry-room c.args.p.now c.args.lo _ _ _ (sym c.in-Got.ensures) in omega arith
+entries_from-bands_from-requires t c = let h : 6 ≤ length c.args.p.now = entry-room c.args.p.now c.args.lo _ _ _ (sym c.in-Some.ensures) in omega arith
 
 pub entries_from-returns-then-left-eq1 : goal.entries_from-returns-then-left-eq1
 entries_from-returns-then-left-eq1 t c =
     let s = c.args.p.now in
-    let x = c.in-Got in
+    let x = c.in-Some in
     let e = sym x.ensures in
-    goes_step s 6 c.args.deep _ (bands_of (take (length s - 6) (drop 6 s))) x.col x.selectors x.alphas c.args.at c.args.out.now _ _ _ (entry-room s c.args.lo _ _ _ e) (omega arith) c.if-deep-eq0.false (entry-last s c.args.left c.args.lo _ _ _ e c.if-left-eq1.true) c.put3.ensures c.bands_from.ensures
+    goes_step s 6 c.args.deep _ (bands_of (take (length s - 6) (drop 6 s))) x.entry.column x.entry.selectors x.entry.alphas c.args.at c.args.out.now _ _ _ (entry-room s c.args.lo _ _ _ e) (omega arith) c.if-deep-eq0.false (entry-last s c.args.left c.args.lo _ _ _ e c.if-left-eq1.true) c.put3.ensures c.bands_from.ensures
 
 pub entries_from-slice_bounds-entries_from-count : goal.entries_from-slice_bounds-entries_from-count
-entries_from-slice_bounds-entries_from-count t c = entry-room c.args.p.now c.args.lo _ _ _ (sym c.in-Got.ensures)
+entries_from-slice_bounds-entries_from-count t c = entry-room c.args.p.now c.args.lo _ _ _ (sym c.in-Some.ensures)
 
 pub entries_from-slice_bounds-entries_from-start : goal.entries_from-slice_bounds-entries_from-start
-entries_from-slice_bounds-entries_from-start t c = entry-room c.args.p.now c.args.lo _ _ _ (sym c.in-Got.ensures)
+entries_from-slice_bounds-entries_from-start t c = entry-room c.args.p.now c.args.lo _ _ _ (sym c.in-Some.ensures)
 
-pub entries_from-overflow_add-at-in-Got : goal.entries_from-overflow_add-at-in-Got
-entries_from-overflow_add-at-in-Got t c = omega (arith, entry-room c.args.p.now c.args.lo _ _ _ (sym c.in-Got.ensures))
+pub entries_from-overflow_add-at-in-Some : goal.entries_from-overflow_add-at-in-Some
+entries_from-overflow_add-at-in-Some t c = omega (arith, entry-room c.args.p.now c.args.lo _ _ _ (sym c.in-Some.ensures))
 
 pub entries_from-entries_from-requires : goal.entries_from-entries_from-requires
-entries_from-entries_from-requires t c = let h : 6 ≤ length c.args.p.now = entry-room c.args.p.now c.args.lo _ _ _ (sym c.in-Got.ensures) in omega arith
+entries_from-entries_from-requires t c = let h : 6 ≤ length c.args.p.now = entry-room c.args.p.now c.args.lo _ _ _ (sym c.in-Some.ensures) in omega arith
 
-pub entries_from-returns-in-Bad : goal.entries_from-returns-in-Bad
-entries_from-returns-in-Bad t c = goes_bad _ _ _ _ _ _ (entry-bad c.args.p.now c.args.left c.args.lo (sym c.in-Bad.ensures))
+pub entries_from-returns-in-None : goal.entries_from-returns-in-None
+entries_from-returns-in-None t c = goes_bad _ _ _ _ _ _ (entry-bad c.args.p.now c.args.left c.args.lo (sym c.in-None.ensures))
 
 pub entries_from-returns-else-left-eq1 : goal.entries_from-returns-else-left-eq1
 entries_from-returns-else-left-eq1 t c =
     let s = c.args.p.now in
-    let x = c.in-Got in
+    let x = c.in-Some in
     let e = sym x.ensures in
-    goes_step s 6 c.args.deep _ (entries_of (take (length s - 6) (drop 6 s)) (c.args.left - 1) (x.col + 1)) x.col x.selectors x.alphas c.args.at c.args.out.now _ _ _ (entry-room s c.args.lo _ _ _ e) (omega arith) c.if-deep-eq0.false (entry_more s c.args.left c.args.lo _ _ _ e c.if-left-eq1.false) c.put3.ensures c.entries_from.ensures
+    goes_step s 6 c.args.deep _ (entries_of (take (length s - 6) (drop 6 s)) (c.args.left - 1) (x.entry.column + 1)) x.entry.column x.entry.selectors x.entry.alphas c.args.at c.args.out.now _ _ _ (entry-room s c.args.lo _ _ _ e) (omega arith) c.if-deep-eq0.false (entry_more s c.args.left c.args.lo _ _ _ e c.if-left-eq1.false) c.put3.ensures c.entries_from.ensures

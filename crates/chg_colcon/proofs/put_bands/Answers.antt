@@ -1,14 +1,15 @@
 -- `chg_colcon::put_bands` meets its contract: the words are in an array of its own before they are counted. Assumes
 -- nothing.
-use Rattle.outcome.specs.Outcome.{listed}
-use Rattle.bands_model.specs.Bands.{bands_of}
-use Rattle.bands_model.proofs.Count.{front_long}
-use Rattle.bands_model.proofs.Stored.{stored-many, stored-kept}
+use mathlib.Core.Path.{sym, ap, ◌∙◌}
+use Rattle.outcome.specs.Outcome.{answered}
+use Rattle.outcome.proofs.Laws.{ok-not-refuse}
+use Rattle.bands_model.proofs.Stored.{read_known, stored-many, stored-kept}
 use Rattle.chg_colcon.proofs.put_bands.Goals as goal
 
-pub slice_bounds-count_bands-end : goal.slice_bounds-count_bands-end
-slice_bounds-count_bands-end c =
-    front_long _ (listed (bands_of c.args.payload.now)) _ (c.store_words.ensures.words c.requires.0) c.requires.2
+-- not met: the bands were read before
+pub returns-in_err-store_words : goal.returns-in_err-store_words
+returns-in_err-store_words c =
+    absurd (ok-not-refuse (sym (ap answered c.in_err-store_words.was) ∙ c.store_words.ensures.answer ∙ read_known _ c.requires.0))
 
 pub returns-then-count_bands-gt-MOST_BANDS : goal.returns-then-count_bands-gt-MOST_BANDS
 returns-then-count_bands-gt-MOST_BANDS c =

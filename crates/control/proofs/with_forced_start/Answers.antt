@@ -3,4 +3,4 @@ use Rattle.control_model.proofs.Told.{forced-told}
 use Rattle.control.proofs.with_forced_start.Goals as goal
 
 pub returns : goal.returns
-returns c = λ t e. forced-told t _ _ (c.with_start-s.ensures t e)
+returns c = λ t e. forced-told t _ _ (c.with_start.ensures t e)

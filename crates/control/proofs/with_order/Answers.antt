@@ -1,59 +1,64 @@
 -- `control::with_order` meets its contract: by the command's byte. Assumes nothing.
 use native.Mathlib.Omega.{arith}
+use mathlib.Core.Path.{ap}
+use Rattle.control_model.specs.CommandBytes.{byte_of}
 use Rattle.grammar.specs.Control.{selectors, alphas}
 use Rattle.control_model.proofs.Told.{told-as, size-as, given-one, given-two}
 use Rattle.control_model.specs.Chain.{plain_at}
 use Rattle.control.proofs.with_order.Goals as goal
 
-pub returns-then-code-eq0 : goal.returns-then-code-eq0
+pub returns-in-ForcedStart : goal.returns-in-ForcedStart
 unfolding plain_at
-returns-then-code-eq0 c = λ t e. told-as _ _ 0 _ _ t _ c.if-code-eq0.true (c.with_forced_start.ensures t e)
+returns-in-ForcedStart c = λ t e. told-as _ _ 0 _ _ t _ (ap byte_of c.in-ForcedStart.is) (c.with_forced_start.ensures t e)
 
-pub returns-then-code-eq1 : goal.returns-then-code-eq1
+pub returns-in-Start : goal.returns-in-Start
 unfolding plain_at
-returns-then-code-eq1 c = λ t e. told-as _ _ 1 _ _ t _ c.if-code-eq1.true (c.with_start.ensures t e)
+returns-in-Start c = λ t e. told-as _ _ 1 _ _ t _ (ap byte_of c.in-Start.is) (c.with_start.ensures t e)
 
-pub returns-then-code-eq2 : goal.returns-then-code-eq2
+pub returns-in-Stop : goal.returns-in-Stop
 unfolding plain_at
-returns-then-code-eq2 c = λ t e. told-as _ _ 2 _ _ t _ c.if-code-eq2.true (c.with_stop.ensures t e)
+returns-in-Stop c = λ t e. told-as _ _ 2 _ _ t _ (ap byte_of c.in-Stop.is) (c.with_stop.ensures t e)
 
 pub word_at-requires : goal.word_at-requires
 unfolding plain_at
-word_at-requires c = size-as _ _ _ 3 _ c.if-code-eq3.true c.requires.1
+word_at-requires c = size-as _ _ _ 3 _ (ap byte_of c.in-Selectors.is) c.requires.1
 
-pub returns-then-code-eq3 : goal.returns-then-code-eq3
+pub returns-in-Selectors : goal.returns-in-Selectors
 unfolding plain_at
-returns-then-code-eq3 c =
-    λ t e. told-as _ _ 3 _ _ t _ c.if-code-eq3.true (given-one selectors c.args.delay _ _ c.word_at.ensures t (c.with_selectors.ensures t c.args.delay e))
+returns-in-Selectors c =
+    λ t e. told-as _ _ 3 _ _ t _ (ap byte_of c.in-Selectors.is) (given-one selectors c.args.delay _ _ c.word_at.ensures t (c.with_selectors.ensures t c.args.delay e))
 
-pub word_at-requires-then-code-eq4 : goal.word_at-requires-then-code-eq4
+pub word_at-requires-in-Alphas : goal.word_at-requires-in-Alphas
 unfolding plain_at
-word_at-requires-then-code-eq4 c = size-as _ _ _ 4 _ c.if-code-eq4.true c.requires.1
+word_at-requires-in-Alphas c = size-as _ _ _ 4 _ (ap byte_of c.in-Alphas.is) c.requires.1
 
-pub returns-then-code-eq4 : goal.returns-then-code-eq4
+pub returns-in-Alphas : goal.returns-in-Alphas
 unfolding plain_at
-returns-then-code-eq4 c =
-    λ t e. told-as _ _ 4 _ _ t _ c.if-code-eq4.true (given-one alphas c.args.delay _ _ c.word_at-then-code-eq4.ensures t (c.with_alphas.ensures t c.args.delay e))
+returns-in-Alphas c =
+    λ t e. told-as _ _ 4 _ _ t _ (ap byte_of c.in-Alphas.is) (given-one alphas c.args.delay _ _ c.word_at-in-Alphas.ensures t (c.with_alphas.ensures t c.args.delay e))
 
 pub with_area_at-requires : goal.with_area_at-requires
 unfolding plain_at
-with_area_at-requires c = size-as _ _ _ 5 _ c.if-code-eq5.true c.requires.1
+with_area_at-requires c = size-as _ _ _ 5 _ (ap byte_of c.in-Area.is) c.requires.1
 
-pub returns-then-code-eq5 : goal.returns-then-code-eq5
+pub returns-in-Area : goal.returns-in-Area
 unfolding plain_at
-returns-then-code-eq5 c = λ t e. told-as _ _ 5 _ _ t _ c.if-code-eq5.true (c.with_area_at.ensures t c.args.delay e)
+returns-in-Area c = λ t e. told-as _ _ 5 _ _ t _ (ap byte_of c.in-Area.is) (c.with_area_at.ensures t c.args.delay e)
 
-pub word_at-requires-2 : goal.word_at-requires-2
+pub word_at-requires-in-Offsets : goal.word_at-requires-in-Offsets
 unfolding plain_at
-word_at-requires-2 c =
-    let h = size-as c.args.unit.now c.args.p _ 6 c.args.code (omega arith) c.requires.1 in omega arith
+word_at-requires-in-Offsets c =
+    let h = size-as c.args.unit.now c.args.p _ 6 _ (ap byte_of c.in-Offsets.is) c.requires.1 in omega arith
 
-pub word_at-requires-3 : goal.word_at-requires-3
+pub word_at-requires-in-Offsets-2 : goal.word_at-requires-in-Offsets-2
 unfolding plain_at
-word_at-requires-3 c =
-    let h = size-as c.args.unit.now c.args.p _ 6 c.args.code (omega arith) c.requires.1 in omega arith
+word_at-requires-in-Offsets-2 c =
+    let h = size-as c.args.unit.now c.args.p _ 6 _ (ap byte_of c.in-Offsets.is) c.requires.1 in omega arith
 
-pub returns : goal.returns
+pub returns-in-Offsets : goal.returns-in-Offsets
 unfolding plain_at
-returns c =
-    λ t e. told-as c.args.unit.now c.args.p 6 c.args.code c.args.delay t _ (omega arith) (given-two c.args.delay _ _ _ _ c.word_at-2.ensures c.word_at-3.ensures t (c.with_offsets.ensures t c.args.delay e))
+returns-in-Offsets c =
+    λ t e. told-as c.args.unit.now c.args.p 6 _ c.args.delay t _ (ap byte_of c.in-Offsets.is) (given-two c.args.delay _ _ _ _ c.word_at-in-Offsets.ensures c.word_at-in-Offsets-2.ensures t (c.with_offsets.ensures t c.args.delay e))
+
+pub returns-in-Colours : goal.returns-in-Colours
+returns-in-Colours c = let e = ap byte_of c.in-Colours.is in absurd (omega (arith, e, c.requires.0))

@@ -4,4 +4,4 @@ use Rattle.control.proofs.word_at.Goals as goal
 
 pub returns : goal.returns
 unfolding word
-returns c = c.word_of.ensures
+returns c = c.word.ensures

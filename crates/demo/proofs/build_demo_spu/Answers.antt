@@ -1,8 +1,7 @@
 -- `demo::build_demo_spu` meets its contract: what is asked first refuses first. Assumes nothing.
-use native.Mathlib.Omega.{arith}
 use mathlib.Core.Path.{sym, ◌∙◌}
 use Rattle.demo_model.proofs.Claim.{claimed}
-use Rattle.demo_model.proofs.Picture.{sides-small}
+use Rattle.demo_model.proofs.Picture.{colours-all}
 use Rattle.demo_model.proofs.Whole.{demo-width, demo-height, demo_count, demo-colours, demo_sound, demo-written}
 use Rattle.demo.proofs.build_demo_spu.Goals as goal
 
@@ -14,22 +13,18 @@ pub returns-then-not-is_side-2 : goal.returns-then-not-is_side-2
 returns-then-not-is_side-2 c =
     claimed (demo-height c.args.width c.args.height c.args.indices.now c.args.out.now (sym c.is_side.ensures ∙ c.if-not-is_side.false) (sym c.is_side-2.ensures ∙ c.if-not-is_side-2.true))
 
-pub overflow_mul-width : goal.overflow_mul-width
-overflow_mul-width c =
-    let m = sides-small c.args.width c.args.height (sym c.is_side.ensures ∙ c.if-not-is_side.false) (sym c.is_side-2.ensures ∙ c.if-not-is_side-2.false) in omega arith
-
 pub returns-then-indices-width : goal.returns-then-indices-width
 returns-then-indices-width c =
     claimed (demo_count c.args.width c.args.height c.args.indices.now c.args.out.now (sym c.is_side.ensures ∙ c.if-not-is_side.false) (sym c.is_side-2.ensures ∙ c.if-not-is_side-2.false) c.if-indices-width.true)
 
 pub returns-then-not-all_colours : goal.returns-then-not-all_colours
 returns-then-not-all_colours c =
-    claimed (demo-colours c.args.width c.args.height c.args.indices.now c.args.out.now (sym c.is_side.ensures ∙ c.if-not-is_side.false) (sym c.is_side-2.ensures ∙ c.if-not-is_side-2.false) c.if-indices-width.false (sym c.all_colours.ensures ∙ c.if-not-all_colours.true))
+    claimed (demo-colours c.args.width c.args.height c.args.indices.now c.args.out.now (sym c.is_side.ensures ∙ c.if-not-is_side.false) (sym c.is_side-2.ensures ∙ c.if-not-is_side-2.false) c.if-indices-width.false (sym (c.all_colours.ensures ∙ colours-all _) ∙ c.if-not-all_colours.true))
 
-pub write_unit-requires : goal.write_unit-requires
-write_unit-requires c =
-    demo_sound c.args.width c.args.height c.args.indices.now c.args.out.now (sym c.is_side.ensures ∙ c.if-not-is_side.false) (sym c.is_side-2.ensures ∙ c.if-not-is_side-2.false) c.if-indices-width.false (sym c.all_colours.ensures ∙ c.if-not-all_colours.false)
+pub invariant_of-picture : goal.invariant_of-picture
+invariant_of-picture c =
+    record { sound = demo_sound c.args.width c.args.height c.args.indices.now c.args.out.now (sym c.is_side.ensures ∙ c.if-not-is_side.false) (sym c.is_side-2.ensures ∙ c.if-not-is_side-2.false) c.if-indices-width.false (sym (c.all_colours.ensures ∙ colours-all _) ∙ c.if-not-all_colours.false) }
 
 pub returns : goal.returns
 returns c =
-    claimed (demo-written c.args.width c.args.height c.args.indices.now c.args.out.now (sym c.is_side.ensures ∙ c.if-not-is_side.false) (sym c.is_side-2.ensures ∙ c.if-not-is_side-2.false) c.if-indices-width.false (sym c.all_colours.ensures ∙ c.if-not-all_colours.false) _ _ c.write_unit.ensures)
+    claimed (demo-written c.args.width c.args.height c.args.indices.now c.args.out.now (sym c.is_side.ensures ∙ c.if-not-is_side.false) (sym c.is_side-2.ensures ∙ c.if-not-is_side-2.false) c.if-indices-width.false (sym (c.all_colours.ensures ∙ colours-all _) ∙ c.if-not-all_colours.false) _ _ (c.write_unit.ensures.answer, c.write_unit.ensures.output))

@@ -11,12 +11,23 @@ use Rattle.demo.proofs.write_unit.Goals as goal
 
 pub returns-then-length-gt65535 : goal.returns-then-length-gt65535
 returns-then-length-gt65535 c =
-    let g = unit-long c.args.width c.args.height c.args.indices.now c.write_fields-ends.result c.write_fields-ends.ensures.ends c.args.out.now c.if-length-gt65535.true in (g.0, measured-none c.args.width c.args.height c.args.indices.now c.args.out.now _ _ c.write_fields-ends.ensures ∙ g.1)
+    let p = c.args.picture in
+    let e = c.write_fields-ends in
+    let g = unit-long p.width p.height p.indices.now e.result e.ensures.ends c.args.out.now c.if-length-gt65535.true in
+    record { answer = g.0; output = measured-none p.width p.height p.indices.now c.args.out.now _ _ e.ensures ∙ g.1 }
 
 pub returns-then-out-length : goal.returns-then-out-length
 returns-then-out-length c =
-    let g = unit-short c.args.width c.args.height c.args.indices.now c.write_fields-ends.result c.write_fields-ends.ensures.ends c.args.out.now c.if-length-gt65535.false (omega (arith, c.if-out-length.true)) in (g.0, measured-none c.args.width c.args.height c.args.indices.now c.args.out.now _ _ c.write_fields-ends.ensures ∙ g.1)
+    let p = c.args.picture in
+    let e = c.write_fields-ends in
+    let g = unit-short p.width p.height p.indices.now e.result e.ensures.ends c.args.out.now c.if-length-gt65535.false (omega (arith, c.if-out-length.true)) in
+    record { answer = g.0; output = measured-none p.width p.height p.indices.now c.args.out.now _ _ e.ensures ∙ g.1 }
 
 pub returns : goal.returns
 returns c =
-    unit-fits c.args.width c.args.height c.args.indices.now c.write_fields-ends.result c.write_fields-ends.ensures.ends c.args.out.now c.if-length-gt65535.false (omega (arith, c.if-out-length.false)) _ (c.put_unit.ensures ∙ ap (λ (l : List ℕ). sets l 0 (unit_of last_marks c.args.width c.args.height c.args.indices.now)) (measured-none c.args.width c.args.height c.args.indices.now c.args.out.now _ _ c.write_fields-ends.ensures))
+    let p = c.args.picture in
+    let e = c.write_fields-ends in
+    let n = measured-none p.width p.height p.indices.now c.args.out.now _ _ e.ensures in
+    let q = c.put_unit.ensures ∙ ap (λ (l : List ℕ). sets l 0 (unit_of last_marks p.width p.height p.indices.now)) n in
+    let g = unit-fits p.width p.height p.indices.now e.result e.ensures.ends c.args.out.now c.if-length-gt65535.false (omega (arith, c.if-out-length.false)) _ q in
+    record { answer = g.0; output = g.1 }

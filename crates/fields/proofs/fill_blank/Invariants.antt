@@ -1,5 +1,5 @@
 -- `fields::fill_blank` meets its contract: the rows left, painted from their place on, are all rows. Assumes nothing.
-use Prim.Native.Nat.{ℕ, ◌+◌, ◌*◌, ◌≤◌}
+use Prim.Native.Nat.{ℕ, ◌+◌, ◌-◌, ◌*◌, ◌≤◌}
 use mathlib.Core.Path.{◌≡◌}
 use mathlib.Core.List.{List}
 use lib.ListN.{length}
@@ -12,8 +12,5 @@ pub record Inv (width rows start : ℕ) (pixels₀ pixels : List ℕ) (left to :
   pub long : length pixels ≡ length pixels₀
   pub goes : paint_field width to (blank_rows left) pixels ≡ paint_field width start (blank_rows rows) pixels₀
 
-abbrev pub invariant-loop-left : goal.invariant-loop-left
-invariant-loop-left l = Inv l.width l.rows l.start l.initial.pixels l.pixels l.left l.to
-
-abbrev pub decreases-loop-left : goal.decreases-loop-left
-decreases-loop-left l = l.left
+abbrev pub invariant-loop : goal.invariant-loop
+invariant-loop l = Inv l.width l.rows l.start l.initial.pixels l.pixels (l.rows - l.counter) l.to

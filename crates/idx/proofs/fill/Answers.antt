@@ -4,34 +4,6 @@ use Rattle.idx_model.proofs.Loops.{line-in}
 use Rattle.idx_model.proofs.Stores.{filling-starts, fill_fits, filling-next, filling_done, long-starts, long_positions}
 use Rattle.idx.proofs.fill.Goals as goal
 
-pub loop-palette-init : goal.loop-palette-init
-loop-palette-init c = filling-starts c.args.text.now c.args.starts.now c.args.positions.now c.requires
-
-pub slice_bounds-until-count : goal.slice_bounds-until-count
-slice_bounds-until-count c = c.loop-palette.invariant.inside
-
-pub slice_bounds-until-start : goal.slice_bounds-until-start
-slice_bounds-until-start c = c.loop-palette.invariant.inside
-
-pub slice_bounds-until-end : goal.slice_bounds-until-end
-slice_bounds-until-end c = omega arith
-
-pub overflow_add-e : goal.overflow_add-e
-overflow_add-e c = omega (arith, line-in c.args.text.now c.loop-palette.i c.until.result c.loop-palette.invariant.inside c.until.ensures)
-
-pub slice_bounds-trim-count : goal.slice_bounds-trim-count
-slice_bounds-trim-count c = omega arith
-
-pub slice_bounds-trim-start : goal.slice_bounds-trim-start
-slice_bounds-trim-start c = omega arith
-
-pub slice_bounds-trim-end : goal.slice_bounds-trim-end
-slice_bounds-trim-end c = line-in c.args.text.now c.loop-palette.i c.until.result c.loop-palette.invariant.inside c.until.ensures
-
-pub store_cue-n-requires : goal.store_cue-n-requires
-store_cue-n-requires c =
-    fill_fits c.args.text.now c.loop-palette.i c.until.result c.loop-palette.invariant.inside c.until.ensures c.trim-l.result.now c.trim-l.ensures _ _ c.read_line-line.result c.read_line-line.ensures c.args.starts.now c.args.positions.now c.loop-palette.starts c.loop-palette.positions c.loop-palette.n c.loop-palette.invariant
-
 pub shape_of-starts-then-e-text : goal.shape_of-starts-then-e-text
 shape_of-starts-then-e-text c =
     long-starts c.args.text.now c.loop-palette.i c.until.result c.loop-palette.invariant.inside c.until.ensures c.trim-l.result.now c.trim-l.ensures _ _ c.read_line-line.result c.read_line-line.ensures c.args.starts.now c.args.positions.now c.loop-palette.starts c.loop-palette.positions c.loop-palette.n c.loop-palette.invariant _ _ _ c.store_cue-n.ensures
@@ -44,13 +16,19 @@ pub returns-then-e-text : goal.returns-then-e-text
 returns-then-e-text c =
     filling_done c.args.text.now c.loop-palette.i c.until.result c.loop-palette.invariant.inside c.until.ensures c.trim-l.result.now c.trim-l.ensures _ _ c.read_line-line.result c.read_line-line.ensures c.args.starts.now c.args.positions.now c.loop-palette.starts c.loop-palette.positions c.loop-palette.n c.loop-palette.invariant _ _ _ c.store_cue-n.ensures c.if-e-text.true
 
-pub overflow_add-i : goal.overflow_add-i
-overflow_add-i c = omega (arith, c.if-e-text.false)
-
-pub loop-palette-smaller : goal.loop-palette-smaller
-loop-palette-smaller c =
-    omega (arith, line-in c.args.text.now c.loop-palette.i c.until.result c.loop-palette.invariant.inside c.until.ensures)
-
 pub loop-palette-preserved : goal.loop-palette-preserved
 loop-palette-preserved c =
     filling-next c.args.text.now c.loop-palette.i c.until.result c.loop-palette.invariant.inside c.until.ensures c.trim-l.result.now c.trim-l.ensures _ _ c.read_line-line.result c.read_line-line.ensures c.args.starts.now c.args.positions.now c.loop-palette.starts c.loop-palette.positions c.loop-palette.n c.loop-palette.invariant _ _ _ c.store_cue-n.ensures c.if-e-text.false
+
+pub loop-palette-init : goal.loop-palette-init
+loop-palette-init c = filling-starts c.args.text.now c.args.starts.now c.args.positions.now c.requires
+
+pub overflow_add-e : goal.overflow_add-e
+overflow_add-e c = omega (arith, line-in c.args.text.now c.loop-palette.i c.until.result c.loop-palette.invariant.inside c.until.ensures)
+
+pub slice_bounds-trim-end : goal.slice_bounds-trim-end
+slice_bounds-trim-end c = line-in c.args.text.now c.loop-palette.i c.until.result c.loop-palette.invariant.inside c.until.ensures
+
+pub store_cue-n-requires : goal.store_cue-n-requires
+store_cue-n-requires c =
+    fill_fits c.args.text.now c.loop-palette.i c.until.result c.loop-palette.invariant.inside c.until.ensures c.trim-l.result.now c.trim-l.ensures _ _ c.read_line-line.result c.read_line-line.ensures c.args.starts.now c.args.positions.now c.loop-palette.starts c.loop-palette.positions c.loop-palette.n c.loop-palette.invariant

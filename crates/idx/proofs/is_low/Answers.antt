@@ -2,15 +2,18 @@
 use native.Mathlib.Omega.{arith}
 use mathlib.Core.Path.{◌∙◌}
 use Rattle.idx_model.proofs.Loops.{low-starts, low_lost, low-kept, low-done}
-use Rattle.idx.proofs.is_low.Goals.{then-s-i-ge128, else-s-i-ge128}
 use Rattle.idx.proofs.is_low.Goals as goal
+use Rattle.idx.proofs.is_low.Goals.{then-b-ge128, else-b-ge128}
 
-pub loop-i-init : goal.loop-i-init
-loop-i-init c = (omega arith, low-starts c.args.s.now)
-
-pub loop-i-preserved : goal.loop-i-preserved
-loop-i-preserved c =
-    (omega arith, elim c.if-s-i-ge128.branch [ then-s-i-ge128 w ↦ w.low-is ∙ low_lost c.args.s.now c.loop-i.low c.loop-i.i c.loop-i.invariant.1 c.loop-i-test.true w.if-s-i-ge128.true | else-s-i-ge128 w ↦ w.low-is ∙ low-kept c.args.s.now c.loop-i.low c.loop-i.i c.loop-i.invariant.1 c.loop-i-test.true w.if-s-i-ge128.false ])
+pub loop-b-preserved : goal.loop-b-preserved
+loop-b-preserved c =
+    elim c.if-b-ge128.branch [
+      | then-b-ge128 w ↦ w.low-is ∙ low_lost c.args.s.now c.loop-b.low c.loop-b.b-index c.loop-b.invariant c.loop-b-test.true w.if-b-ge128.true
+      | else-b-ge128 w ↦ w.low-is ∙ low-kept c.args.s.now c.loop-b.low c.loop-b.b-index c.loop-b.invariant c.loop-b-test.true w.if-b-ge128.false
+    ]
 
 pub returns : goal.returns
-returns c = low-done c.args.s.now c.loop-i.low c.loop-i.i c.loop-i.invariant.1 c.loop-i-test.false
+returns c = low-done c.args.s.now c.loop-b.low c.loop-b.b-index c.loop-b.invariant (omega arith)
+
+pub loop-b-init : goal.loop-b-init
+loop-b-init c = low-starts c.args.s.now

@@ -1,48 +1,39 @@
 -- `idx::measure_lines` meets its contract: each turn is one line more. Assumes nothing.
+use borrow.Author.Rules.{rules}
 use native.Mathlib.Omega.{arith}
-use mathlib.Core.Path.{refl}
-use Rattle.idx_model.proofs.Loops.{measuring-starts, measuring_refused, measuring_done, measuring-next, line-in}
+use mathlib.Core.Path.{refl, sym, ap, ◌∙◌}
+use Rattle.std.specs.Prelude.{Result, Option}
+use Rattle.outcome.specs.declared.Refusal.{Refusal}
+use Rattle.idx_lines_model.specs.declared.Directive.{Directive}
+use Rattle.idx_lines_model.specs.Answers.{line_says}
+use Rattle.idx_model.specs.Answers.{see_line}
+use Rattle.idx_model.proofs.Loops.{line-in, measuring_refused, measuring_done, measuring-next}
 use Rattle.idx.proofs.measure_lines.Goals as goal
 
-pub loop-n-init : goal.loop-n-init
-loop-n-init c = measuring-starts c.args.text.now c.args.room c.args.cue c.args.palette.now _ refl
+pub returns-in_err-line : goal.returns-in_err-line
+returns-in_err-line c =
+    let told = ap (λ (x : Result (Option Directive) Refusal). see_line c.args.cue c.args.room c.loop-line.seen (line_says x)) (sym c.in_err-line.was) in
+    let w = measuring_refused c.args.text.now c.loop-line.i c.until.result c.loop-line.invariant.inside c.until.ensures c.trim-l.result.now c.trim-l.ensures c.args.room c.args.cue c.args.palette.now c.loop-line.seen c.loop-line.palette c.loop-line.invariant c.read_line.result _ c.read_line.ensures _ told _ refl in
+    record { says = rw (← w.says) (search rules); palette = w.palette }
 
-pub slice_bounds-until-count : goal.slice_bounds-until-count
-slice_bounds-until-count c = c.loop-n.invariant.inside
-
-pub slice_bounds-until-start : goal.slice_bounds-until-start
-slice_bounds-until-start c = c.loop-n.invariant.inside
-
-pub slice_bounds-until-end : goal.slice_bounds-until-end
-slice_bounds-until-end c = omega arith
-
-pub overflow_add-e : goal.overflow_add-e
-overflow_add-e c = omega (arith, line-in c.args.text.now c.loop-n.i c.until.result c.loop-n.invariant.inside c.until.ensures)
-
-pub slice_bounds-trim-count : goal.slice_bounds-trim-count
-slice_bounds-trim-count c = omega arith
-
-pub slice_bounds-trim-start : goal.slice_bounds-trim-start
-slice_bounds-trim-start c = omega arith
-
-pub slice_bounds-trim-end : goal.slice_bounds-trim-end
-slice_bounds-trim-end c = line-in c.args.text.now c.loop-n.i c.until.result c.loop-n.invariant.inside c.until.ensures
-
-pub returns-in-Refused : goal.returns-in-Refused
-returns-in-Refused c =
-    measuring_refused c.args.text.now c.loop-n.i c.until.result c.loop-n.invariant.inside c.until.ensures c.trim-l.result.now c.trim-l.ensures c.args.room c.args.cue c.args.palette.now c.loop-n.seen c.loop-n.palette c.loop-n.invariant c.read_line-line.result _ c.read_line-line.ensures c.seen_line.result c.seen_line.ensures _ c.in-Refused.is
+pub returns-in_err-seen : goal.returns-in_err-seen
+returns-in_err-seen c =
+    let told = ap (λ (x : Result (Option Directive) Refusal). see_line c.args.cue c.args.room c.loop-line.seen (line_says x)) (sym c.in_ok-line.was) in
+    let w = measuring_refused c.args.text.now c.loop-line.i c.until.result c.loop-line.invariant.inside c.until.ensures c.trim-l.result.now c.trim-l.ensures c.args.room c.args.cue c.args.palette.now c.loop-line.seen c.loop-line.palette c.loop-line.invariant c.read_line.result _ c.read_line.ensures _ (c.in_err-seen.ensures ∙ told) _ refl in
+    record { says = rw (← w.says) (search rules); palette = w.palette }
 
 pub returns-then-e-text : goal.returns-then-e-text
 returns-then-e-text c =
-    measuring_done c.args.text.now c.loop-n.i c.until.result c.loop-n.invariant.inside c.until.ensures c.trim-l.result.now c.trim-l.ensures c.args.room c.args.cue c.args.palette.now c.loop-n.seen c.loop-n.palette c.loop-n.invariant c.read_line-line.result _ c.read_line-line.ensures c.seen_line.result c.seen_line.ensures _ c.in-Saw.is c.if-e-text.true
+    let told = ap (λ (x : Result (Option Directive) Refusal). see_line c.args.cue c.args.room c.loop-line.seen (line_says x)) (sym c.in_ok-line.was) in
+    measuring_done c.args.text.now c.loop-line.i c.until.result c.loop-line.invariant.inside c.until.ensures c.trim-l.result.now c.trim-l.ensures c.args.room c.args.cue c.args.palette.now c.loop-line.seen c.loop-line.palette c.loop-line.invariant c.read_line.result _ c.read_line.ensures _ (c.in_ok-seen.ensures ∙ told) _ refl c.if-e-text.true
 
-pub overflow_add-i : goal.overflow_add-i
-overflow_add-i c = omega (arith, c.if-e-text.false)
+pub loop-line-preserved : goal.loop-line-preserved
+loop-line-preserved c =
+    let told = ap (λ (x : Result (Option Directive) Refusal). see_line c.args.cue c.args.room c.loop-line.seen (line_says x)) (sym c.in_ok-line.was) in
+    measuring-next c.args.text.now c.loop-line.i c.until.result c.loop-line.invariant.inside c.until.ensures c.trim-l.result.now c.trim-l.ensures c.args.room c.args.cue c.args.palette.now c.loop-line.seen c.loop-line.palette c.loop-line.invariant c.read_line.result _ c.read_line.ensures _ (c.in_ok-seen.ensures ∙ told) _ refl c.if-e-text.false
 
-pub loop-n-smaller : goal.loop-n-smaller
-loop-n-smaller c =
-    omega (arith, line-in c.args.text.now c.loop-n.i c.until.result c.loop-n.invariant.inside c.until.ensures)
+pub overflow_add-e : goal.overflow_add-e
+overflow_add-e c = omega (arith, line-in c.args.text.now c.loop-line.i c.until.result c.loop-line.invariant.inside c.until.ensures)
 
-pub loop-n-preserved : goal.loop-n-preserved
-loop-n-preserved c =
-    measuring-next c.args.text.now c.loop-n.i c.until.result c.loop-n.invariant.inside c.until.ensures c.trim-l.result.now c.trim-l.ensures c.args.room c.args.cue c.args.palette.now c.loop-n.seen c.loop-n.palette c.loop-n.invariant c.read_line-line.result _ c.read_line-line.ensures c.seen_line.result c.seen_line.ensures _ c.in-Saw.is c.if-e-text.false
+pub slice_bounds-trim-end : goal.slice_bounds-trim-end
+slice_bounds-trim-end c = line-in c.args.text.now c.loop-line.i c.until.result c.loop-line.invariant.inside c.until.ensures

@@ -1,19 +1,22 @@
--- `idx::pick_cue` meets its contract: measured, and the cue picked from what was seen. Assumes nothing.
+-- `idx::pick_cue` meets its contract: by what was measured. Assumes nothing.
+use borrow.Author.Rules.{rules}
 use native.Mathlib.Omega.{arith}
+use mathlib.Core.Path.{refl}
+use Rattle.outcome.specs.Outcome.{answered}
 use Rattle.idx_model.proofs.Claim.{cue-claimed}
 use Rattle.idx_model.proofs.Whole.{cue-refused, cue-picked}
 use Rattle.idx.proofs.pick_cue.Goals as goal
 
-pub returns-in-Refused : goal.returns-in-Refused
-returns-in-Refused c =
+pub returns-in_err-seen : goal.returns-in_err-seen
+returns-in_err-seen c =
     cue-claimed _ _
     (cue-refused c.args.text.now c.args.cue 18446744073709551615 (omega (arith, c.well_formed.0.1))
-    c.measure_idx.result _ c.measure_idx.ensures _ c.in-Refused.is
-    c.refused_cue.result c.refused_cue.ensures)
+    _ _ c.in_err-seen.ensures _ refl
+    (answered c.from_residual.result) (search rules))
 
-pub returns-in-Saw : goal.returns-in-Saw
-returns-in-Saw c =
+pub returns : goal.returns
+returns c =
     cue-claimed _ _
     (cue-picked c.args.text.now c.args.cue 18446744073709551615 (omega (arith, c.well_formed.0.1))
-    c.measure_idx.result _ c.measure_idx.ensures _ c.in-Saw.is
-    c.picked_cue.result c.picked_cue.ensures)
+    _ _ c.in_ok-seen.ensures _ refl
+    _ c.picked_cue.ensures)

@@ -10,21 +10,12 @@ use Rattle.idx_lines.proofs.is_timestamp.Goals as goal
 pub returns-then-l-lt10 : goal.returns-then-l-lt10
 returns-then-l-lt10 c = word-short timestamp_word c.args.l.now c.if-l-lt10.true
 
-pub eight_at-requires : goal.eight_at-requires
-eight_at-requires c = omega arith
-
 pub returns-then-eight_at-ne7881708861846808948 : goal.returns-then-eight_at-ne7881708861846808948
 unfolding lowest
 returns-then-eight_at-ne7881708861846808948 c = stamp-not c.args.l.now c.if-l-lt10.false (λ i. omega (arith, c.shared_slice_known-1.given i)) c.eight_at.result c.eight_at.ensures _ refl c.if-eight_at-ne7881708861846808948.true
 
-pub bounds-l-8 : goal.bounds-l-8
-bounds-l-8 c = omega arith
-
 pub returns-then-l-ne112 : goal.returns-then-l-ne112
 returns-then-l-ne112 c = stamp-ninth c.args.l.now c.if-l-lt10.false (λ i. omega (arith, c.shared_slice_known-1.given i)) c.eight_at.result c.eight_at.ensures c.if-l-ne112.true
-
-pub bounds-l-9 : goal.bounds-l-9
-bounds-l-9 c = omega arith
 
 pub returns : goal.returns
 unfolding lowest

@@ -1,28 +1,29 @@
 -- `idx_lines::parse_time` meets its contract: four fields in turn, and the sum. Assumes nothing.
-use Rattle.grammar.specs.IndexParts.{colon}
-use Rattle.idx_numbers_model.specs.Parts.{split}
-use Rattle.idx_lines_model.proofs.Clock.{clock_1, clock_2, clock_3, clock_4, clock-all, clock_over, clock-is}
+use borrow.Author.Rules.{rules}
+use Rattle.idx_lines_model.proofs.Clock.{clock_1, clock_2, clock_3, clock_4, clock-all, clock-last}
 use Rattle.idx_lines.proofs.parse_time.Goals as goal
 
-pub returns-in_default : goal.returns-in_default
-returns-in_default c = clock_1 c.args.t.now c.field_at.result c.field_at.ensures c.in_default.is
+pub returns-in_err-h : goal.returns-in_err-h
+returns-in_err-h c = λ p.
+    let h = clock_1 c.args.t.now _ c.field_at.ensures c.in_err-h.ensures.ok_part p in
+    rw (← h) (search rules)
 
-pub returns-in_default-field_at : goal.returns-in_default-field_at
-returns-in_default-field_at c =
-    clock_2 c.args.t.now c.field_at.result c.field_at.ensures _ _ c.in-Is.is c.field_at-2.result c.field_at-2.ensures c.in_default-field_at.is
+pub returns-in_err-m : goal.returns-in_err-m
+returns-in_err-m c = λ p.
+    let h = clock_2 c.args.t.now _ c.field_at.ensures _ _ c.in_ok-h.ensures.ok_part _ c.field_at-2.ensures c.in_err-m.ensures.ok_part p in
+    rw (← h) (search rules)
 
-pub returns-in_default-field_at-2 : goal.returns-in_default-field_at-2
-returns-in_default-field_at-2 c =
-    clock_3 c.args.t.now c.field_at.result c.field_at.ensures _ _ c.in-Is.is c.field_at-2.result c.field_at-2.ensures _ _ c.in-Is-field_at.is c.field_at-3.result c.field_at-3.ensures c.in_default-field_at-2.is
+pub returns-in_err-s : goal.returns-in_err-s
+returns-in_err-s c = λ p.
+    let h = clock_3 c.args.t.now _ c.field_at.ensures _ _ c.in_ok-h.ensures.ok_part _ c.field_at-2.ensures _ _ c.in_ok-m.ensures.ok_part _ c.field_at-3.ensures c.in_err-s.ensures.ok_part p in
+    rw (← h) (search rules)
 
-pub returns-in_default-field_at-3 : goal.returns-in_default-field_at-3
-returns-in_default-field_at-3 c =
-    clock_4 c.args.t.now c.field_at.result c.field_at.ensures _ _ c.in-Is.is c.field_at-2.result c.field_at-2.ensures _ _ c.in-Is-field_at.is c.field_at-3.result c.field_at-3.ensures _ _ c.in-Is-field_at-2.is c.field_at-4.result c.field_at-4.ensures c.in_default-field_at-3.is
+pub returns-in_err-ms : goal.returns-in_err-ms
+returns-in_err-ms c = λ p.
+    let h = clock_4 c.args.t.now _ c.field_at.ensures _ _ c.in_ok-h.ensures.ok_part _ c.field_at-2.ensures _ _ c.in_ok-m.ensures.ok_part _ c.field_at-3.ensures _ _ c.in_ok-s.ensures.ok_part _ c.field_at-4.ensures c.in_err-ms.ensures.ok_part p in
+    rw (← h) (search rules)
 
-pub returns-in-Over : goal.returns-in-Over
-returns-in-Over c =
-    λ p. clock_over c.time_of.result _ c.in-Over.is (clock-all c.args.t.now c.field_at.result c.field_at.ensures _ _ c.in-Is.is c.field_at-2.result c.field_at-2.ensures _ _ c.in-Is-field_at.is c.field_at-3.result c.field_at-3.ensures _ _ c.in-Is-field_at-2.is c.field_at-4.result c.field_at-4.ensures _ _ c.in-Is-field_at-3.is c.time_of.result c.time_of.ensures p)
-
-pub returns-in-Is-time_of : goal.returns-in-Is-time_of
-returns-in-Is-time_of c =
-    λ p. clock-is c.time_of.result _ (split colon p c.args.t.now) c.in-Is-time_of.is (clock-all c.args.t.now c.field_at.result c.field_at.ensures _ _ c.in-Is.is c.field_at-2.result c.field_at-2.ensures _ _ c.in-Is-field_at.is c.field_at-3.result c.field_at-3.ensures _ _ c.in-Is-field_at-2.is c.field_at-4.result c.field_at-4.ensures _ _ c.in-Is-field_at-3.is c.time_of.result c.time_of.ensures p)
+pub returns : goal.returns
+returns c = λ p.
+    clock-last _ _ _ c.ok_or-5.ensures.value
+    (clock-all c.args.t.now _ c.field_at.ensures _ _ c.in_ok-h.ensures.ok_part _ c.field_at-2.ensures _ _ c.in_ok-m.ensures.ok_part _ c.field_at-3.ensures _ _ c.in_ok-s.ensures.ok_part _ c.field_at-4.ensures _ _ c.in_ok-ms.ensures.ok_part _ c.time_of.ensures p)

@@ -1,24 +1,11 @@
--- `idx_numbers::kept` meets its contract. Assumes nothing.
-use borrow.Author.Tests.{not-true, not-false}
-use mathlib.Core.Path.{◌∙◌}
-use native.Mathlib.Omega.{arith}
-use mathlib.Core.Path.{sym, ap}
-use lib.Seq.{take-length}
+-- `idx_numbers::kept` meets its contract: std finds the last byte that is no blank. Assumes nothing.
+use Rattle.std.proofs.Common.{rules}
 use Rattle.grammar.specs.IndexParts.{blank}
-use Rattle.idx_numbers_model.specs.Parts.{shorn}
-use Rattle.idx_numbers_model.proofs.Loops.{kept_more, kept-stop, kept-end}
+use Rattle.idx_numbers_model.proofs.Loops.{kept_last, kept_none}
 use Rattle.idx_numbers.proofs.kept.Goals as goal
 
-pub loop-e-init : goal.loop-e-init
-loop-e-init c = (omega arith, ap (shorn blank) (sym (take-length _)))
+pub returns-in-Some : goal.returns-in-Some
+returns-in-Some c = kept_last blank c.args.s.now c.in-Some.last (search rules) (search rules) (search rules)
 
-pub returns-then-not-is_blank : goal.returns-then-not-is_blank
-returns-then-not-is_blank c =
-    kept-stop _ _ _ c.loop-e.invariant.1 c.loop-e-test.true c.loop-e.invariant.0 (sym c.is_blank.ensures ∙ not-true _ c.if-not-is_blank.true-raw)
-
-pub loop-e-preserved : goal.loop-e-preserved
-loop-e-preserved c =
-    (omega arith, kept_more _ _ _ c.loop-e.invariant.1 c.loop-e-test.true c.loop-e.invariant.0 (sym c.is_blank.ensures ∙ not-false _ c.if-not-is_blank.false-raw))
-
-pub returns : goal.returns
-returns c = kept-end _ _ _ c.loop-e.invariant.1 c.loop-e-test.false
+pub returns-in-None : goal.returns-in-None
+returns-in-None c = kept_none blank c.args.s.now (search rules)

@@ -1,19 +1,16 @@
--- `idx_numbers::leading` meets its contract. Assumes nothing.
-use borrow.Author.Tests.{not-true, not-false}
-use mathlib.Core.Path.{◌∙◌}
-use native.Mathlib.Omega.{arith}
-use mathlib.Core.Path.{sym}
-use Rattle.idx_numbers_model.proofs.Loops.{lead-more, lead-stop, lead-end}
+-- `idx_numbers::leading` meets its contract: std finds the first byte that does not pass. Assumes nothing.
+use mathlib.Core.Path.{◌≡◌, refl, sym, ◌∙◌}
+use mathlib.Core.Bool.{Bool, true, false}
+use borrow.Author.Tests.{tests}
+use Rattle.std.proofs.Common.{rules, Bor, ℕ}
+use Rattle.std.proofs.lemmas.Fn.{says_at}
+use Rattle.std.proofs.lemmas.Iterator.{YieldsList-from_slice, IsFirst-from_position}
+use Rattle.idx_numbers_model.proofs.Loops.{first_front}
 use Rattle.idx_numbers.proofs.leading.Goals as goal
 
-pub loop-i-init : goal.loop-i-init
-loop-i-init c = (omega arith, omega arith)
-
-pub returns-then-not-passes : goal.returns-then-not-passes
-returns-then-not-passes c = lead-stop _ _ _ c.loop-i.invariant.1 c.loop-i-test.true (sym c.passes.ensures ∙ not-true _ c.if-not-passes.true-raw)
-
-pub loop-i-preserved : goal.loop-i-preserved
-loop-i-preserved c = (omega arith, lead-more _ _ _ c.loop-i.invariant.1 c.loop-i-test.true (sym c.passes.ensures ∙ not-false _ c.if-not-passes.false-raw))
-
 pub returns : goal.returns
-returns c = lead-end _ _ _ c.loop-i.invariant.1 c.loop-i-test.false
+returns g c = λ p h.
+    let k : (y : Bor ℕ) (r : Bool) → g.F.Fn.post c.args.passes (y, tt) r → r ≡ p y.now = λ y r m. h y.now r (says_at g.F.Fn m refl) in
+    c.unwrap_or.ensures
+    ∙ sym (first_front p c.args.s.now c.position.result
+    (IsFirst-from_position _ _ _ (λ b. p b ≡ false) (λ b. p b ≡ true) c.position.ensures.ran (YieldsList-from_slice c.args.s.now (cc)) (λ x q m. search (rules, tests, k)) (λ x q m. search (rules, tests, k))))

@@ -1,12 +1,11 @@
--- `idx_numbers::strip_0x` meets its contract. Assumes nothing.
+-- `idx_numbers::strip_0x` meets its contract: each turn takes one `0x`. Assumes nothing.
 use mathlib.Core.Path.{◌≡◌}
-use Prim.Native.Nat.{◌≤◌, ◌-◌}
-use lib.ListN.{length, drop}
+use lib.ListN.{length}
 use Rattle.idx_numbers_model.specs.Numbers.{bare}
 use Rattle.idx_numbers.proofs.strip_0x.Given as goal
 
-abbrev pub invariant-loop-i : goal.invariant-loop-i
-invariant-loop-i l = (l.i ≤ length l.s) × (bare l.s ≡ bare (drop l.i l.s))
+abbrev pub invariant-loop-shorter : goal.invariant-loop-shorter
+invariant-loop-shorter l = bare l.s ≡ bare l.rest
 
-abbrev pub decreases-loop-i : goal.decreases-loop-i
-decreases-loop-i l = length l.s - l.i
+abbrev pub decreases-loop-shorter : goal.decreases-loop-shorter
+decreases-loop-shorter l = length l.rest

@@ -4,28 +4,6 @@ use Rattle.grammar.specs.IndexParts.{unlike}
 use Rattle.idx_numbers_model.proofs.Loops.{skip_block, near-end, front-le}
 use Rattle.idx_numbers.proofs.until.Goals as goal
 
-pub loop-i-init : goal.loop-i-init
-loop-i-init c = (omega arith, omega arith)
-
-pub overflow_sub-n : goal.overflow_sub-n
-overflow_sub-n c = omega arith
-
-pub eight_have-requires : goal.eight_have-requires
-eight_have-requires c = omega arith
-
-pub slice_bounds-near-count : goal.slice_bounds-near-count
-slice_bounds-near-count c = omega arith
-
-pub slice_bounds-near-start : goal.slice_bounds-near-start
-slice_bounds-near-start c = omega arith
-
-pub slice_bounds-near-end : goal.slice_bounds-near-end
-slice_bounds-near-end c = omega arith
-
-pub overflow_add-result : goal.overflow_add-result
-overflow_add-result c =
-    omega (arith, near-end _ _ _ c.loop-i.invariant.0 c.loop-i.invariant.1 _ c.near.ensures, front-le (unlike c.args.sep) c.args.s.now)
-
 pub returns-then-eight_have : goal.returns-then-eight_have
 returns-then-eight_have c =
     near-end _ _ _ c.loop-i.invariant.0 c.loop-i.invariant.1 _ c.near.ensures
@@ -33,18 +11,13 @@ returns-then-eight_have c =
 pub loop-i-preserved : goal.loop-i-preserved
 loop-i-preserved c = (omega arith, skip_block _ _ _ c.loop-i.invariant.0 c.loop-i.invariant.1 _ c.eight_have.ensures c.if-eight_have.false (omega arith))
 
-pub slice_bounds-near-count-2 : goal.slice_bounds-near-count-2
-slice_bounds-near-count-2 c = omega arith
+pub returns : goal.returns
+returns c = near-end _ _ _ c.loop-i.invariant.0 c.loop-i.invariant.1 _ c.near-2.ensures
 
-pub slice_bounds-near-start-2 : goal.slice_bounds-near-start-2
-slice_bounds-near-start-2 c = omega arith
-
-pub slice_bounds-near-end-2 : goal.slice_bounds-near-end-2
-slice_bounds-near-end-2 c = omega arith
+pub overflow_add-result : goal.overflow_add-result
+overflow_add-result c =
+    omega (arith, near-end _ _ _ c.loop-i.invariant.0 c.loop-i.invariant.1 _ c.near.ensures, front-le (unlike c.args.sep) c.args.s.now)
 
 pub overflow_add-result-2 : goal.overflow_add-result-2
 overflow_add-result-2 c =
     omega (arith, near-end _ _ _ c.loop-i.invariant.0 c.loop-i.invariant.1 _ c.near-2.ensures, front-le (unlike c.args.sep) c.args.s.now)
-
-pub returns : goal.returns
-returns c = near-end _ _ _ c.loop-i.invariant.0 c.loop-i.invariant.1 _ c.near-2.ensures

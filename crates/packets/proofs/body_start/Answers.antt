@@ -1,30 +1,35 @@
 -- `packets::body_start` meets its contract: by the form of the header. Assumes nothing.
 use native.Mathlib.Omega.{arith}
-use mathlib.Core.Path.{◌∙◌, refl}
+use Prim.Native.Nat.{ℕ, ◌/◌}
+use mathlib.Core.Path.{sym, ap, ◌∙◌}
 use Rattle.ps_model.proofs.PacketGrammar.{leading_le}
-use Rattle.ps_model.proofs.Body.{body-none, body-cut, body_past, body_at_lem, body_older}
+use Rattle.ps_model.proofs.Body.{body-none, body-cut, body_at_lem, body_older, stuffed}
+use Rattle.ps_model.proofs.Read.{missing}
 use Rattle.packets.proofs.body_start.Goals as goal
 
-pub returns-then-pes-eq0 : goal.returns-then-pes-eq0
-returns-then-pes-eq0 c = body-none _ c.if-pes-eq0.true
+pub returns-in_err-first : goal.returns-in_err-first
+returns-in_err-first c =
+    let m = c.in_err-first.ensures in
+    let g = rw m.ok_part at c.first.ensures.item in
+    rw (missing c.first.result _ c.from_residual.result m.ok_part m.value c.from_residual.ensures) (body-none _ (omega (arith, g.3)))
 
-pub returns-then-pes-lt3 : goal.returns-then-pes-lt3
-returns-then-pes-lt3 c = body-cut _ (omega arith) c.if-pes-eq2.true c.if-pes-lt3.true
+pub returns-in_err-size : goal.returns-in_err-size
+returns-in_err-size c =
+    let b = rw c.in_ok-first.ensures.ok_part at c.first.ensures.item in
+    let m = c.in_err-size.ensures in
+    let g = rw m.ok_part at c.get.ensures.lookup in
+    rw (missing c.get.result _ c.from_residual-in_err-size.result m.ok_part m.value c.from_residual-in_err-size.ensures) (body-cut _ b.3.0 (ap (λ (x : ℕ). x / 64) (sym (b.4 (omega arith) 0)) ∙ c.if-first-eq2.true) (omega (arith, g.3)))
 
-pub overflow_cast-body : goal.overflow_cast-body
-overflow_cast-body c = omega (arith, c.shared_slice_known-then-pes-eq2-1.given 2)
-
-pub overflow_add-body : goal.overflow_add-body
-overflow_add-body c = omega (arith, c.shared_slice_known-then-pes-eq2-1.given 2)
-
-pub returns-then-pes-body : goal.returns-then-pes-body
-returns-then-pes-body c = body_past _ (omega arith) c.if-pes-eq2.true (omega arith) _ refl c.if-pes-body.true
-
-pub returns-then-pes-eq2 : goal.returns-then-pes-eq2
-returns-then-pes-eq2 c = body_at_lem _ (omega arith) c.if-pes-eq2.true (omega arith) _ refl c.if-pes-body.false
+pub returns-then-first-eq2 : goal.returns-then-first-eq2
+returns-then-first-eq2 c =
+    let b = rw c.in_ok-first.ensures.ok_part at c.first.ensures.item in
+    let s = rw c.in_ok-size.ensures.ok_part at c.get.ensures.lookup in
+    c.after.ensures ∙ rw (s.4 (omega arith) 0) (body_at_lem _ b.3.0 (ap (λ (x : ℕ). x / 64) (sym (b.4 (omega arith) 0)) ∙ c.if-first-eq2.true) (omega (arith, s.3.0)))
 
 pub older_body-requires : goal.older_body-requires
-older_body-requires c = omega (arith, c.stuffing-n.ensures, leading_le 16 c.args.pes.now 0)
+older_body-requires c = omega (arith, c.stuffing-n.ensures, stuffed c.args.pes.now _ c.min.ensures, leading_le 16 c.args.pes.now 0)
 
 pub returns : goal.returns
-returns c = c.older_body.ensures ∙ body_older _ (omega arith) c.if-pes-eq2.false _ c.stuffing-n.ensures
+returns c =
+    let b = rw c.in_ok-first.ensures.ok_part at c.first.ensures.item in
+    c.older_body.ensures ∙ body_older _ b.3.0 (λ e. c.if-first-eq2.false (ap (λ (x : ℕ). x / 64) (b.4 (omega arith) 0) ∙ e)) _ (c.stuffing-n.ensures ∙ stuffed c.args.pes.now _ c.min.ensures)

@@ -1,135 +1,91 @@
 -- `packets::read_packet` meets its contract: by its prefix and its code. Assumes nothing.
 use native.Mathlib.Omega.{arith}
-use mathlib.Core.Path.{◌∙◌}
-use Prim.Native.Nat.{◌+◌, ◌≤◌}
+use Prim.Native.Nat.{ℕ, ◌+◌, ◌*◌, ◌≤◌}
+use mathlib.Core.Path.{◌≡◌, sym, ◌∙◌}
+use mathlib.Core.Logic.{⊎_elim}
 use lib.ListN.{length}
+use Rattle.std.specs.List.{slice_range}
+use Rattle.grammar.specs.Bytes.{byte, word}
 use Rattle.grammar.specs.Packets.{is_id}
 use Rattle.ps_model.proofs.PacketGrammar.{word_at}
-use Rattle.ps_model.proofs.Read.{Prefixed, packet-short, packet-unprefixed, packet-pack, packet-private, packet-ending, packet-other}
-use Rattle.packets.proofs.read_packet.Goals.{Else-file-at-ne1}
+use Rattle.ps_model.proofs.Read.{Prefixed, missing, byte_from, prefixed_from, unprefixed_from, packet-short, packet-unprefixed, packet-pack, packet-private, packet-ending, packet-other}
+use Rattle.packets.proofs.read_packet.Goals.{In_ok-packet, In-len6-up, Else-ne}
 use Rattle.packets.proofs.read_packet.Goals as goal
 
--- they start with the prefix
-prefixed : (c : Else-file-at-ne1) → Prefixed c.args.file.now c.args.at
-prefixed c =
-    record {
-      at_0 = c.if-file-at-ne0.false;
-      at_1 = c.if-file-at-ne0-2.false;
-      at_2 = c.if-file-at-ne1.false;
-    }
+-- what is left from the place on
+module _ (c : In_ok-packet) where
+  left : c.in_ok-packet.packet.now ≡ slice_range c.args.file.now c.args.at (length c.args.file.now)
+  left = (rw c.in_ok-packet.ensures.ok_part at c.get.ensures.lookup).0.2
+
+  long : length c.in_ok-packet.packet.now + c.args.at ≡ length c.args.file.now
+  long = (rw c.in_ok-packet.ensures.ok_part at c.get.ensures.lookup).0.3
 
 -- ---- Too short, or without the prefix
-pub returns-then-file-lt6 : goal.returns-then-file-lt6
-returns-then-file-lt6 c =
+pub returns-in_err-packet : goal.returns-in_err-packet
+returns-in_err-packet c =
+    let m = c.in_err-packet.ensures in
+    let h = (rw m.ok_part at c.get.ensures.lookup).0 in
+    rw (missing c.get.result _ c.from_residual.result m.ok_part m.value c.from_residual.ensures)
+    (packet-short (is_id c.args.id) c.args.file.now c.args.at (⊎_elim (λ l. omega (arith, l)) (λ l. omega (arith, l)) h))
+
+pub returns-in_default : goal.returns-in_default
+returns-in_default c =
+    packet-short (is_id c.args.id) c.args.file.now c.args.at (omega (arith, long (goal.at.returns-in_default c).In_ok-packet, c.in_default.len_below))
+
+pub returns-then-ne : goal.returns-then-ne
+returns-then-ne c =
     let a = c.args in
-    packet-short (is_id a.id) a.file.now a.at (omega (arith, c.if-file-lt6.true))
-
-pub overflow_sub-file : goal.overflow_sub-file
-overflow_sub-file c = omega (arith, c.if-file-lt6.false)
-
-pub returns-then-file-at : goal.returns-then-file-at
-returns-then-file-at c =
-    let a = c.args in
-    packet-short (is_id a.id) a.file.now a.at (omega (arith, c.if-file-lt6.false, c.if-file-at.true))
-
-pub bounds-file-at : goal.bounds-file-at
-bounds-file-at c = let six : c.args.at + 6 ≤ length c.args.file.now = let l = c.if-file-lt6.false in let m = c.if-file-at.false in omega arith in
-    omega (arith, six)
-
-pub returns-then-file-at-ne0 : goal.returns-then-file-at-ne0
-returns-then-file-at-ne0 c =
-    let a = c.args in
-    packet-unprefixed (is_id a.id) a.file.now a.at (λ p. c.if-file-at-ne0.true p.at_0)
-
-pub overflow_add-at : goal.overflow_add-at
-overflow_add-at c = let six : c.args.at + 6 ≤ length c.args.file.now = let l = c.if-file-lt6.false in let m = c.if-file-at.false in omega arith in
-    omega (arith, six)
-
-pub bounds-file-at-2 : goal.bounds-file-at-2
-bounds-file-at-2 c = let six : c.args.at + 6 ≤ length c.args.file.now = let l = c.if-file-lt6.false in let m = c.if-file-at.false in omega arith in
-    omega (arith, six)
-
-pub returns-then-file-at-ne0-2 : goal.returns-then-file-at-ne0-2
-returns-then-file-at-ne0-2 c =
-    let a = c.args in
-    packet-unprefixed (is_id a.id) a.file.now a.at (λ p. c.if-file-at-ne0-2.true p.at_1)
-
-pub overflow_add-at-2 : goal.overflow_add-at-2
-overflow_add-at-2 c = let six : c.args.at + 6 ≤ length c.args.file.now = let l = c.if-file-lt6.false in let m = c.if-file-at.false in omega arith in
-    omega (arith, six)
-
-pub bounds-file-at-3 : goal.bounds-file-at-3
-bounds-file-at-3 c = let six : c.args.at + 6 ≤ length c.args.file.now = let l = c.if-file-lt6.false in let m = c.if-file-at.false in omega arith in
-    omega (arith, six)
-
-pub returns-then-file-at-ne1 : goal.returns-then-file-at-ne1
-returns-then-file-at-ne1 c =
-    let a = c.args in
-    packet-unprefixed (is_id a.id) a.file.now a.at (λ p. c.if-file-at-ne1.true p.at_2)
+    packet-unprefixed (is_id a.id) a.file.now a.at (unprefixed_from a.file.now a.at _ (left (goal.at.returns-then-ne c).In_ok-packet) (sym c.ne.ensures ∙ c.if-ne.true))
 
 -- ---- By its code
-pub overflow_add-code : goal.overflow_add-code
-overflow_add-code c = let six : c.args.at + 6 ≤ length c.args.file.now = let l = c.if-file-lt6.false in let m = c.if-file-at.false in omega arith in
-    omega (arith, six)
+-- they start with the prefix, and six bytes at least are left
+module _ (c : Else-ne) where
+  prefixed : Prefixed c.args.file.now c.args.at
+  prefixed = prefixed_from c.args.file.now c.args.at _ (left (goal.at.Else-ne c).In_ok-packet) (sym c.ne.ensures ∙ c.if-ne.false)
 
-pub bounds-file-at-4 : goal.bounds-file-at-4
-bounds-file-at-4 c = let six : c.args.at + 6 ≤ length c.args.file.now = let l = c.if-file-lt6.false in let m = c.if-file-at.false in omega arith in
-    omega (arith, six)
+  code : byte c.args.file.now (c.args.at + 3) ≡ byte c.in_ok-packet.packet.now 3
+  code = sym (byte_from c.args.file.now c.args.at _ (left (goal.at.Else-ne c).In_ok-packet) 3)
 
-pub pack-requires : goal.pack-requires
-pack-requires c = let six : c.args.at + 6 ≤ length c.args.file.now = let l = c.if-file-lt6.false in let m = c.if-file-at.false in omega arith in
-    six
+  six : c.args.at + 6 ≤ length c.args.file.now
+  six = omega (arith, long (goal.at.Else-ne c).In_ok-packet, c.in-len6-up.len_at_least)
 
-pub returns-then-code : goal.returns-then-code
-returns-then-code c =
+  size : (n : ℕ) → n ≡ byte c.in_ok-packet.packet.now 4 * 256 + byte c.in_ok-packet.packet.now 5 → n ≡ word c.args.file.now (c.args.at + 4)
+  size n e =
+      let b = byte_from c.args.file.now c.args.at _ (left (goal.at.Else-ne c).In_ok-packet) in
+      e ∙ rw (b 4, b 5) (word_at c.args.file.now (c.args.at + 4) (c.args.at + 5) (omega arith))
+
+pub returns-in-186 : goal.returns-in-186
+returns-in-186 c =
     let a = c.args in
-    c.pack.ensures ∙ packet-pack (is_id a.id) a.file.now a.at (prefixed (goal.at.returns-then-code c).Else-file-at-ne1) c.if-code.true
-
-pub overflow_add-at-3 : goal.overflow_add-at-3
-overflow_add-at-3 c = let six : c.args.at + 6 ≤ length c.args.file.now = let l = c.if-file-lt6.false in let m = c.if-file-at.false in omega arith in
-    omega (arith, six)
-
-pub bounds-file-at-5 : goal.bounds-file-at-5
-bounds-file-at-5 c = let six : c.args.at + 6 ≤ length c.args.file.now = let l = c.if-file-lt6.false in let m = c.if-file-at.false in omega arith in
-    omega (arith, six)
-
-pub overflow_add-at-4 : goal.overflow_add-at-4
-overflow_add-at-4 c = let six : c.args.at + 6 ≤ length c.args.file.now = let l = c.if-file-lt6.false in let m = c.if-file-at.false in omega arith in
-    omega (arith, six)
-
-pub bounds-file-at-6 : goal.bounds-file-at-6
-bounds-file-at-6 c = let six : c.args.at + 6 ≤ length c.args.file.now = let l = c.if-file-lt6.false in let m = c.if-file-at.false in omega arith in
-    omega (arith, six)
+    let s = (goal.at.returns-in-186 c).Else-ne in
+    c.pack.ensures ∙ packet-pack (is_id a.id) a.file.now a.at (prefixed s) (code s ∙ c.in-186.is)
 
 pub private_stream-requires : goal.private_stream-requires
 private_stream-requires c =
-    let six : c.args.at + 6 ≤ length c.args.file.now = let l = c.if-file-lt6.false in let m = c.if-file-at.false in omega arith in
-    let a = c.args in
-    (six, c.word_of-size.ensures ∙ word_at a.file.now (a.at + 4) (a.at + 5) (omega arith))
+    let s = (goal.at.private_stream-requires c).Else-ne in (six s, size s _ c.word_of-size.ensures)
 
-pub returns-then-code-2 : goal.returns-then-code-2
-returns-then-code-2 c =
+pub returns-in-189 : goal.returns-in-189
+returns-in-189 c =
     let a = c.args in
-    c.private_stream.ensures
-    ∙ packet-private (is_id a.id) a.file.now a.at (prefixed (goal.at.returns-then-code-2 c).Else-file-at-ne1) c.if-code.false c.if-code-2.true
+    let s = (goal.at.returns-in-189 c).Else-ne in
+    let e = code s in
+    let i = c.in-189.is in
+    c.private_stream.ensures ∙ packet-private (is_id a.id) a.file.now a.at (prefixed s) (λ z. omega (arith, e, i, z)) (e ∙ i)
 
-pub returns-then-code-3 : goal.returns-then-code-3
-returns-then-code-3 c =
+pub returns-in-185 : goal.returns-in-185
+returns-in-185 c =
     let a = c.args in
-    packet-ending (is_id a.id) a.file.now a.at (prefixed (goal.at.returns-then-code-3 c).Else-file-at-ne1) c.if-code.false c.if-code-2.false c.if-code-3.true
+    let s = (goal.at.returns-in-185 c).Else-ne in
+    let e = code s in
+    let i = c.in-185.is in
+    packet-ending (is_id a.id) a.file.now a.at (prefixed s) (λ z. omega (arith, e, i, z)) (λ z. omega (arith, e, i, z)) (e ∙ i)
 
-pub overflow_add-size : goal.overflow_add-size
-overflow_add-size c =
+pub returns-in_default-code : goal.returns-in_default-code
+returns-in_default-code c =
     let a = c.args in
-    omega (arith, c.word_of-size.ensures, c.shared_slice_known-6-1.given (a.at + 4), c.shared_slice_known-7-1.given (a.at + 5))
-
-pub passing-requires : goal.passing-requires
-passing-requires c = let six : c.args.at + 6 ≤ length c.args.file.now = let l = c.if-file-lt6.false in let m = c.if-file-at.false in omega arith in
-    omega (arith, six)
-
-pub returns : goal.returns
-returns c =
-    let a = c.args in
+    let s = (goal.at.returns-in_default-code c).Else-ne in
+    let e = code s in
+    let d = c.in_default-code in
     c.passing.ensures
-    ∙ packet-other (is_id a.id) a.file.now a.at (prefixed (goal.at.returns c).Else-file-at-ne1) c.if-code.false c.if-code-2.false c.if-code-3.false _
-    (omega (arith, c.word_of-size.ensures, word_at a.file.now (a.at + 4) (a.at + 5) (omega arith)))
+    ∙ packet-other (is_id a.id) a.file.now a.at (prefixed s) (λ z. omega (arith, e, d, z)) (λ z. omega (arith, e, d, z)) (λ z. omega (arith, e, d, z)) _
+    (omega (arith, size s _ c.word_of-size.ensures))

@@ -3,33 +3,27 @@ use native.Mathlib.Omega.{arith}
 use mathlib.Core.Path.{sym, ap, ◌∙◌, refl}
 use mathlib.Core.List.{List}
 use lib.ListN.{length}
+use Rattle.std.specs.Prelude.{Ok}
+use Rattle.outcome.specs.Outcome.{answered}
 use Rattle.outcome.proofs.Laws.{ok-injective}
 use Rattle.grammar.specs.Packets.{Packet, packets, unit_of, joined, is_id}
 use Rattle.ps_model.proofs.Read.{Told, keeps-told, passes-told, refused-told}
-use Rattle.ps_model.proofs.Loops.{joining-starts, joining_ends, joining_refused, joining_passes, joining_goes, unit-within}
+use Rattle.ps_model.proofs.Loops.{joining_ends, joining_refused, joining_passes, joining_goes, unit-within}
 use Rattle.ps.proofs.join_packets.Goals.{In-Keeps, In-Passes}
 use Rattle.ps.proofs.join_packets.Goals as goal
 
 passes : (c : In-Passes) → (Told (is_id c.args.id) c.args.file.now c.loop-have.at c.in-Passes.end c.in-Passes.end)
-passes c = passes-told _ _ _ _ c.read_packet.ensures _ c.in-Passes.is
+passes c = passes-told _ _ _ _ c.read_packet.ensures _ (ap answered c.in-Ok.is ∙ ap (λ r. answered (Ok r)) c.in-Passes.is)
 
 keeps : (c : In-Keeps) → (Told (is_id c.args.id) c.args.file.now c.loop-have.at c.in-Keeps.a c.in-Keeps.end)
-keeps c = keeps-told _ _ _ _ c.read_packet.ensures _ _ c.in-Keeps.is
+keeps c = keeps-told _ _ _ _ c.read_packet.ensures _ _ (ap answered c.in-Ok.is ∙ ap (λ r. answered (Ok r)) c.in-Keeps.is)
 
 -- ---- The needs
-pub loop-have-init : goal.loop-have-init
-loop-have-init c = λ ps q r. joining-starts _ _ _ ps q _ _
-
-pub shape_of-scratch-in-Refused : goal.shape_of-scratch-in-Refused
-shape_of-scratch-in-Refused c =
-    let g = c.requires in
-    (c.loop-have.invariant g.0 g.1 g.2).size
-
-pub returns-in-Refused : goal.returns-in-Refused
-returns-in-Refused c =
+pub returns-in_default : goal.returns-in_default
+returns-in_default c =
     let g = c.requires in
     absurd (joining_refused _ _ (joined g.0) c.args.t (omega (arith, g.2, unit-within _ _ _ g.0 g.1)) _ _ _ _ (c.loop-have.invariant g.0 g.1 g.2) c.loop-have-test.true _
-    (refused-told _ _ _ _ c.read_packet.ensures _ c.in-Refused.is))
+    (refused-told _ _ _ _ c.read_packet.ensures _ (ap answered c.in_default.is)))
 
 pub loop-have-smaller-in-Passes : goal.loop-have-smaller-in-Passes
 loop-have-smaller-in-Passes c = omega (arith, (passes (goal.at.loop-have-smaller-in-Passes c).In-Passes).after, (passes (goal.at.loop-have-smaller-in-Passes c).In-Passes).inside)
@@ -41,9 +35,6 @@ loop-have-preserved-in-Passes c =
 pub overflow_sub-end : goal.overflow_sub-end
 overflow_sub-end c = (keeps (goal.at.overflow_sub-end c).In-Keeps).upto
 
-pub overflow_sub-t : goal.overflow_sub-t
-overflow_sub-t c = omega (arith, c.loop-have-test.true)
-
 pub copy-requires : goal.copy-requires
 copy-requires c =
     let k = keeps (goal.at.copy-requires c).In-Keeps in
@@ -52,14 +43,8 @@ copy-requires c =
     let o = k.upto in
     let z = (c.loop-have.invariant g.0 g.1 g.2).size in
     let p = g.3 in
-    let m = c.lesser-m.ensures in
+    let m = c.min-m.ensures in
     (omega (arith, c.loop-have-test.true), omega (arith, c.loop-have-test.true))
-
-pub overflow_add-have : goal.overflow_add-have
-overflow_add-have c =
-    let m = c.lesser-m.ensures in
-    let p = c.requires.3 in
-    omega (arith, c.loop-have-test.true, c.ranges.t)
 
 pub loop-have-smaller : goal.loop-have-smaller
 loop-have-smaller c =
@@ -69,12 +54,7 @@ loop-have-smaller c =
 pub loop-have-preserved : goal.loop-have-preserved
 loop-have-preserved c =
     λ ps q e. joining_goes _ _ (joined ps) c.args.t (omega (arith, e, unit-within _ _ _ ps q)) _ _ _ _ (c.loop-have.invariant ps q e) c.loop-have-test.true _ _ (keeps (goal.at.loop-have-preserved c).In-Keeps) _
-    c.lesser-m.ensures _ c.copy.ensures
-
-pub shape_of-scratch : goal.shape_of-scratch
-shape_of-scratch c =
-    let g = c.requires in
-    (c.loop-have.invariant g.0 g.1 g.2).size
+    c.min-m.ensures _ c.copy.ensures
 
 pub returns : goal.returns
 returns c =

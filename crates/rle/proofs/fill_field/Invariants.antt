@@ -1,5 +1,5 @@
 -- `rle::fill_field` meets its contract: the rows left, painted from their place on, are all rows. Assumes nothing.
-use Prim.Native.Nat.{ℕ, ◌+◌, ◌*◌, ◌≤◌, ◌<◌}
+use Prim.Native.Nat.{ℕ, ◌+◌, ◌-◌, ◌*◌, ◌≤◌, ◌<◌}
 use mathlib.Core.Path.{◌≡◌}
 use mathlib.Core.List.{List}
 use lib.ListN.{length}
@@ -16,8 +16,7 @@ pub record Inv (field : List ℕ) (width rows start : ℕ) (pixels₀ pixels : L
   pub goes : paint_field width to (listed (field_at field (length field) width left pos)) pixels
       ≡ paint_field width start (listed (field_at field (length field) width rows 0)) pixels₀
 
-abbrev pub invariant-loop-left : goal.invariant-loop-left
-invariant-loop-left l = Inv l.field l.width l.rows l.start l.initial.pixels l.pixels l.pos l.left l.to
-
-abbrev pub decreases-loop-left : goal.decreases-loop-left
-decreases-loop-left l = l.left
+abbrev pub invariant-loop : goal.invariant-loop
+invariant-loop l =
+    (l.reader.buf ≡ l.initial.reader.buf)
+    × Inv l.field l.width l.fn.rows.count l.fn.rows.start l.initial.pixels l.pixels l.reader.pos (l.fn.rows.count - l.counter) l.to

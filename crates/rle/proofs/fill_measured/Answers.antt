@@ -5,10 +5,7 @@ use Rattle.rle.proofs.fill_measured.Goals as goal
 pub fill_kept-requires : goal.fill_kept-requires
 fill_kept-requires c =
     let p = c.requires in
-    (c.if-codes-kept.true, p.0, kept-room _ _ _ _ _ c.if-width-lt-WIDEST.true p.2 c.if-codes-kept.true _ _ p.1)
+    (p.0, kept-room _ _ _ _ _ c.if-rows-lt-WIDEST.true p.2 c.if-codes-kept.true _ _ p.1)
 
-pub returns-then-width-lt-WIDEST : goal.returns-then-width-lt-WIDEST
-returns-then-width-lt-WIDEST c = kept-pixels _ _ _ _ _ c.if-width-lt-WIDEST.true c.requires.2 c.if-codes-kept.true _ _ _ c.fill_kept.ensures
-
-pub fill_field-requires : goal.fill_field-requires
-fill_field-requires c = record { room = c.requires.1; there = c.requires.2.there }
+pub returns-then-rows-lt-WIDEST : goal.returns-then-rows-lt-WIDEST
+returns-then-rows-lt-WIDEST c = kept-pixels _ _ _ _ _ c.if-rows-lt-WIDEST.true c.requires.2 c.if-codes-kept.true _ _ _ c.fill_kept.ensures

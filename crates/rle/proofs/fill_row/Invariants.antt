@@ -19,7 +19,9 @@ pub record Inv (field : List ℕ) (width start : ℕ) (pixels₀ : List ℕ) (po
       ≡ sets pixels₀ start (row_pixels width (listed (row_at field (length field) width pos₀)))
 
 abbrev pub invariant-loop-left : goal.invariant-loop-left
-invariant-loop-left l = Inv l.field l.width l.start l.initial.pixels l.initial.pos l.pixels l.pos l.left l.to
+invariant-loop-left l =
+    (l.reader.buf ≡ l.initial.reader.buf)
+    × Inv l.initial.reader.buf.now l.width l.start l.initial.pixels l.initial.reader.pos l.pixels l.reader.pos l.left l.to
 
 abbrev pub decreases-loop-left : goal.decreases-loop-left
 decreases-loop-left l = l.left

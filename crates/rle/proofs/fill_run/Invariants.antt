@@ -13,6 +13,3 @@ pub record Inv (pixels₀ : List ℕ) (start count colour : ℕ) (pixels : List 
 
 abbrev pub invariant-loop-i : goal.invariant-loop-i
 invariant-loop-i l = Inv l.initial.pixels l.start l.count l.colour l.pixels l.i
-
-abbrev pub decreases-loop-i : goal.decreases-loop-i
-decreases-loop-i l = l.count - l.i

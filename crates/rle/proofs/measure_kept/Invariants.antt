@@ -1,5 +1,5 @@
 -- `rle::measure_kept` meets its contract: the rows left, counted and kept behind what was counted and kept, are all rows. Assumes nothing.
-use Prim.Native.Nat.{ℕ, ◌<◌}
+use Prim.Native.Nat.{ℕ, ◌-◌, ◌<◌}
 use mathlib.Core.Path.{◌≡◌}
 use mathlib.Core.List.{List}
 use lib.ListN.{length}
@@ -17,8 +17,5 @@ pub record Inv (field : List ℕ) (width rows : ℕ) (kept₀ kept : List ℕ) (
   pub goes : plus_field counts (field_answer width (field_at field (length field) width left pos)) ≡ measured field width rows
   pub keeps : sets kept counts.codes (kept_all width (field_read field (length field) width left pos)) ≡ sets kept₀ 0 (kept_all width (field_read field (length field) width rows 0))
 
-abbrev pub invariant-loop-left : goal.invariant-loop-left
-invariant-loop-left l = Inv l.field l.width l.rows l.initial.kept l.kept l.counts l.pos l.left
-
-abbrev pub decreases-loop-left : goal.decreases-loop-left
-decreases-loop-left l = l.left
+abbrev pub invariant-loop : goal.invariant-loop
+invariant-loop l = (l.reader.buf ≡ l.initial.reader.buf) × Inv l.field l.width l.rows l.initial.kept l.kept l.counts l.reader.pos (l.rows - l.counter)

@@ -1,19 +1,6 @@
--- `spu::decode_rows` meets its contract: both fields, where they stand. Assumes nothing.
-use native.Mathlib.Omega.{arith}
-use Rattle.grammar.specs.Record.{told}
-use Rattle.spu_model.proofs.Loops.{known, rows-kept, spans-inside, room, rows-decoded}
+-- `spu::decode_rows` meets its contract: as its method does. Assumes nothing.
+use Rattle.spu_model.proofs.Loops.{answer_by_lem}
 use Rattle.spu.proofs.decode_rows.Goals as goal
 
-pub laid_out-l-requires : goal.laid_out-l-requires
-laid_out-l-requires c = (c.requires.0, c.requires.1, c.requires.2)
-
-pub returns-then-l : goal.returns-then-l
-returns-then-l c = λ bs e. rows-kept c.args.unit.now _ _ (c.laid_out-l.ensures.2 bs e) _ c.if-l.true
-
-pub decode_rle_fields-requires : goal.decode_rle_fields-requires
-decode_rle_fields-requires c =
-    let i = spans-inside c.args.unit.now (told c.requires.0) _ (c.laid_out-l.ensures.2 c.requires.0 c.requires.1) (known _ _ (c.requires.0, c.requires.1, c.requires.2)).inside in
-    (i.0, i.1, room c.args.unit.now (told c.requires.0) _ (c.laid_out-l.ensures.2 c.requires.0 c.requires.1) _ c.requires.3)
-
-pub returns : goal.returns
-returns c = λ bs e. rows-decoded c.args.unit.now _ _ (c.laid_out-l.ensures.2 bs e) _ _ _ (omega arith) c.decode_rle_fields.ensures
+pub invariant_of-parsed : goal.invariant_of-parsed
+invariant_of-parsed c = record { read = answer_by_lem _ _ (c.requires.0, c.requires.1, c.requires.2) }

@@ -3,14 +3,14 @@ use native.Mathlib.Omega.{arith}
 use Rattle.vobsub_model.proofs.Painting.{nibble-last}
 use Rattle.vobsub.proofs.nibble_of.Goals as goal
 
-pub returns-then-c-eq0 : goal.returns-then-c-eq0
-returns-then-c-eq0 c = rw c.if-c-eq0.true
+pub returns-in-0 : goal.returns-in-0
+returns-in-0 c = rw c.in-0.is
 
-pub returns-then-c-eq1 : goal.returns-then-c-eq1
-returns-then-c-eq1 c = rw c.if-c-eq1.true
+pub returns-in-1 : goal.returns-in-1
+returns-in-1 c = rw c.in-1.is
 
-pub returns-then-c-eq2 : goal.returns-then-c-eq2
-returns-then-c-eq2 c = rw c.if-c-eq2.true
+pub returns-in-2 : goal.returns-in-2
+returns-in-2 c = rw c.in-2.is
 
-pub returns : goal.returns
-returns c = nibble-last c.args.four c.args.c (omega (arith, c.if-c-eq0.false, c.if-c-eq1.false, c.if-c-eq2.false))
+pub returns-in_default : goal.returns-in_default
+returns-in_default c = nibble-last c.args.four c.args.c (omega (arith, c.in_default))

@@ -5,7 +5,7 @@ use Rattle.vobsub_model.proofs.Painting.{Painting, table_from}
 use Rattle.vobsub.proofs.paint_plain.Given as goal
 
 abbrev pub invariant-loop-i : goal.invariant-loop-i
-invariant-loop-i l = Painting (table_from l.colours) l.row l.initial.canvas l.at l.i l.to l.canvas
+invariant-loop-i l = Painting (table_from l.colours) l.row l.initial.canvas l.at l.i l.canvas
 
 abbrev pub decreases-loop-i : goal.decreases-loop-i
 decreases-loop-i l = length l.row - l.i

@@ -1,59 +1,67 @@
--- `vobsub_c::vobsub_parse_and_decode_spu` meets its contract: the record of the layer, taken apart by its refusal. Assumes nothing.
+-- `vobsub_c::vobsub_parse_and_decode_spu` meets its contract: the record of the layer, or its refusal. Assumes nothing.
 use Prim.Native.Nat.{ℕ}
-use mathlib.Core.Path.{◌≡◌, refl, sym, ap, ◌∙◌}
-use mathlib.Core.Bool.{Bool, cond}
+use mathlib.Core.Path.{◌≡◌, refl, sym, ap, ◌∙◌, subst}
 use mathlib.Core.List.{List}
-use borrow.Author.Tests.{eq-eqb, ne_eqb}
-use Rattle.spu_model.specs.Answers.{Decoded}
+use lib.ListN.{length}
+use Rattle.outcome.specs.Outcome.{Res, ok, refuse, IsOk, refusal_of, answered}
+use Rattle.grammar.specs.Picture.{ListedUnit}
+use Rattle.spu_model.specs.Unit.{unit_in}
+use Rattle.spu_model.specs.Answers.{record_given, Decoded}
 use Rattle.spu_model.specs.Claim.{Says}
 use Rattle.spu_model.specs.declared.Record.{Record}
 use Rattle.vobsub_numbers.specs.Numbers.{spu_numbers}
-use Rattle.vobsub_c.specs.Answers.{record_numbers, record_bands, UnitDecoded}
+use Rattle.vobsub_c.specs.Answers.{or_before, UnitDecoded}
 use Rattle.vobsub_c.proofs.Returned.{record_returned}
 use Rattle.vobsub_c.proofs.Told.{numbers-told}
 use Rattle.vobsub_c.proofs.vobsub_parse_and_decode_spu.Goals as goal
 
-module _ (u px px' ws ns : List ℕ) (a : Record) (q : Decoded u px a px') (s : Says u px px' a) where
+given_ok : (x : Res ListedUnit) → IsOk x → IsOk (record_given x)
+given_ok (ok l) h = tt
+given_ok (refuse n) h = h
+
+module _ (u px px' ws ns : List ℕ) (r : Res Record) (q : Decoded u px r px') (s : Says u px px' r) where
   -- what is left where nothing is refused
-  accepted : a.refused ≡ 0 → (ns' : List ℕ) → ns' ≡ spu_numbers a.spu → UnitDecoded u px ws ns 0 px' a.bands ns'
-  accepted z ns' n =
-      let y = eq-eqb a.refused 0 z in
-      let r = sym z ∙ ap (λ (o : Record). o.refused) q.answer in
+  accepted : (a : Record) → r ≡ ok a → (ns' : List ℕ) → ns' ≡ spu_numbers a.spu → UnitDecoded u px ws ns 0 px' a.bands ns'
+  accepted a e ns' n =
+      let y : ok a ≡ record_given (unit_in u (length px)) = sym e ∙ q.answer in
       record {
-        refusal = r;
-        returned = record_returned _ _ 0 r;
-        told = n ∙ sym (ap (λ (b : Bool). cond b (spu_numbers a.spu) ns) y) ∙ ap (λ (o : Record). record_numbers o ns) q.answer;
+        refusal = ap refusal_of y;
+        returned = record_returned _ _ 0 (ap refusal_of y);
+        told = n ∙ ap (λ (o : Res Record). or_before (λ b. spu_numbers b.spu) o ns) y;
         paints = q.pixels;
-        stores = sym (ap (λ (b : Bool). cond b a.bands ws) y) ∙ ap (λ (o : Record). record_bands o ws) q.answer;
+        stores = ap (λ (o : Res Record). or_before (λ b. b.bands) o ws) y;
         as_found = λ h. absurd (h refl);
-        exactly_when = (λ h. s.exactly_when.0 z, λ h. refl);
+        exactly_when = (λ h. s.exactly_when.0 (subst IsOk (sym e) tt), λ h. refl);
         unit_told = λ l i o.
-            let g = s.same l i z in
+            let g = s.same l i a e in
             record { map_is = g.pixels; bands_are = g.bands; numbers_are = n ∙ numbers-told _ _ _ g.recorded };
       }
 
   -- and on a refusal
-  declined : (a.refused ≡ 0 → ⊥) → UnitDecoded u px ws ns a.refused px' ws ns
-  declined z =
-      let y = ne_eqb a.refused 0 z in
-      let r = ap (λ (o : Record). o.refused) q.answer in
+  declined : (k : ℕ) → r ≡ refuse k → UnitDecoded u px ws ns k px' ws ns
+  declined k e =
+      let y : refuse k ≡ record_given (unit_in u (length px)) = sym e ∙ q.answer in
+      let v = record_returned u (length px) k (ap refusal_of y) in
       record {
-        refusal = r;
-        returned = record_returned _ _ a.refused r;
-        told = sym (ap (λ (b : Bool). cond b (spu_numbers a.spu) ns) y) ∙ ap (λ (o : Record). record_numbers o ns) q.answer;
+        refusal = ap refusal_of y;
+        returned = v;
+        told = ap (λ (o : Res Record). or_before (λ b. spu_numbers b.spu) o ns) y;
         paints = q.pixels;
-        stores = sym (ap (λ (b : Bool). cond b a.bands ws) y) ∙ ap (λ (o : Record). record_bands o ws) q.answer;
-        as_found = λ h. (s.as_found z, refl, refl);
-        exactly_when = s.exactly_when;
-        unit_told = λ l i o. absurd (z (s.exactly_when.1 (l, i, o)));
+        stores = ap (λ (o : Res Record). or_before (λ b. b.bands) o ws) y;
+        as_found = λ h. (s.as_found (λ g. subst IsOk e g), refl, refl);
+        exactly_when = (
+          λ h. absurd (subst IsOk (sym y) (given_ok (unit_in u (length px)) (v.accepted h))),
+          λ h. absurd (subst IsOk e (s.exactly_when.1 h)),
+        );
+        unit_told = λ l i o. absurd (subst IsOk e (s.exactly_when.1 (l, i, o)));
       }
 
-pub returns-then-a-eq0 : goal.returns-then-a-eq0
-returns-then-a-eq0 c =
-    let r = c.parse_and_decode_spu-a in
-    accepted _ _ _ _ _ _ r.ensures.0 r.ensures.1 c.if-a-eq0.true _ c.numbers_of.ensures
+pub returns-in-Ok : goal.returns-in-Ok
+returns-in-Ok c =
+    let r = c.parse_and_decode_spu in
+    accepted _ _ _ _ _ _ r.ensures.0 r.ensures.1 _ (ap answered c.in-Ok.is) _ c.numbers_of.ensures
 
-pub returns : goal.returns
-returns c =
-    let r = c.parse_and_decode_spu-a in
-    declined _ _ _ _ _ _ r.ensures.0 r.ensures.1 c.if-a-eq0.false
+pub returns-in-Err : goal.returns-in-Err
+returns-in-Err c =
+    let r = c.parse_and_decode_spu in
+    rw c.number.ensures (declined _ _ _ _ _ _ r.ensures.0 r.ensures.1 _ (ap answered c.in-Err.is))

@@ -1,35 +1,41 @@
--- `vobsub_c::vobsub_parse_idx` meets its contract: the answer of the layer, taken apart by its refusal. Assumes nothing.
+-- `vobsub_c::vobsub_parse_idx` meets its contract: the answer of the layer, or its refusal. Assumes nothing.
 use Prim.Native.Nat.{ℕ}
-use mathlib.Core.Path.{◌≡◌, refl, sym, ap, ◌∙◌}
-use mathlib.Core.Bool.{Bool, cond}
+use mathlib.Core.Path.{◌≡◌, refl, sym, ap, ◌∙◌, subst}
+use mathlib.Core.Bool.{cond}
 use mathlib.Core.List.{List, [], ◌∷◌}
 use lib.IntN.{ℤ}
-use borrow.Author.Tests.{eq-eqb, ne_eqb}
-use Rattle.idx_model.specs.Answers.{IdxRead}
+use Rattle.outcome.specs.Outcome.{Res, ok, refuse, IsOk, refusal_of, answered}
+use Rattle.grammar.specs.Index.{ListedText}
+use Rattle.idx_model.specs.Answers.{idx_with, idx_answer, IdxRead}
 use Rattle.idx_model.specs.Claim.{IdxSays}
 use Rattle.idx_model.specs.declared.IdxAnswer.{IdxAnswer}
-use Rattle.vobsub_c.specs.Answers.{idx_record, idx_palette, IndexGiven}
+use Rattle.vobsub_c.specs.Answers.{or_before, IndexGiven}
 use Rattle.vobsub_numbers.specs.Numbers.{idx_numbers}
 use Rattle.vobsub_c.proofs.Returned.{index-returned}
 use Rattle.vobsub_c.proofs.vobsub_parse_idx.Goals as goal
 
-module _ (t : List ℕ) (s s' : List ℤ) (p p' px ns : List ℕ) (a : IdxAnswer) (q : IdxRead t s p a s' p')
-    (w : IdxSays t s p a s' p') where
+given_ok : (x : Res ListedText) → IsOk x → IsOk (idx_answer x)
+unfolding idx_answer
+given_ok (ok l) h = tt
+given_ok (refuse n) h = h
+
+module _ (t : List ℕ) (s s' : List ℤ) (p p' px ns : List ℕ) (r : Res IdxAnswer) (q : IdxRead t s p r s' p')
+    (w : IdxSays t s p r s' p') where
   -- what is left where nothing is refused
-  accepted : a.refused ≡ 0 → (ns' : List ℕ) → ns' ≡ idx_numbers a → IndexGiven t s p px ns 0 s' p' a.palette ns'
-  accepted z ns' n =
-      let y = eq-eqb a.refused 0 z in
+  accepted : (a : IdxAnswer) → r ≡ ok a → (ns' : List ℕ) → ns' ≡ idx_numbers a → IndexGiven t s p px ns 0 s' p' a.palette ns'
+  accepted a z ns' n =
+      let y : ok a ≡ idx_answer (idx_with s p t) = sym z ∙ q.answer in
       record {
-        refusal = sym z ∙ ap (λ (o : IdxAnswer). o.refused) q.answer;
-        returned = index-returned s p t 0 (sym z ∙ ap (λ (o : IdxAnswer). o.refused) q.answer);
-        told = n ∙ sym (ap (λ (b : Bool). cond b (idx_numbers a) ns) y) ∙ ap (λ (o : IdxAnswer). idx_record o ns) q.answer;
-        colours = sym (ap (λ (b : Bool). cond b a.palette px) y) ∙ ap (λ (o : IdxAnswer). idx_palette o px) q.answer;
+        refusal = ap refusal_of y;
+        returned = index-returned s p t 0 (ap refusal_of y);
+        told = n ∙ ap (λ (o : Res IdxAnswer). or_before idx_numbers o ns) y;
+        colours = ap (λ (o : Res IdxAnswer). or_before (λ b. b.palette) o px) y;
         starts_are = q.stored.starts_are;
         positions_are = q.stored.positions_are;
         as_found = λ f. absurd (f refl);
-        exactly_when = (λ e. w.exactly_when.0 z, λ h. refl);
+        exactly_when = (λ e. w.exactly_when.0 (subst IsOk (sym z) tt), λ h. refl);
         text_told = λ x h e.
-            let g = w.same x h z in
+            let g = w.same x h a z in
             record {
               starts_are = g.starts_are;
               positions_are = g.positions_are;
@@ -39,26 +45,28 @@ module _ (t : List ℕ) (s s' : List ℤ) (p p' px ns : List ℕ) (a : IdxAnswer
       }
 
   -- and on a refusal
-  declined : (a.refused ≡ 0 → ⊥) → IndexGiven t s p px ns a.refused s' p' px ns
-  declined z =
-      let y = ne_eqb a.refused 0 z in
+  declined : (k : ℕ) → r ≡ refuse k → IndexGiven t s p px ns k s' p' px ns
+  declined k z =
+      let y : refuse k ≡ idx_answer (idx_with s p t) = sym z ∙ q.answer in
+      let v = index-returned s p t k (ap refusal_of y) in
+      let none : k ≡ 0 → ⊥ = λ h. subst IsOk (sym y) (given_ok (idx_with s p t) (v.accepted h)) in
       record {
-        refusal = ap (λ (o : IdxAnswer). o.refused) q.answer;
-        returned = index-returned s p t a.refused (ap (λ (o : IdxAnswer). o.refused) q.answer);
-        told = sym (ap (λ (b : Bool). cond b (idx_numbers a) ns) y) ∙ ap (λ (o : IdxAnswer). idx_record o ns) q.answer;
-        colours = sym (ap (λ (b : Bool). cond b a.palette px) y) ∙ ap (λ (o : IdxAnswer). idx_palette o px) q.answer;
+        refusal = ap refusal_of y;
+        returned = v;
+        told = ap (λ (o : Res IdxAnswer). or_before idx_numbers o ns) y;
+        colours = ap (λ (o : Res IdxAnswer). or_before (λ b. b.palette) o px) y;
         starts_are = q.stored.starts_are;
         positions_are = q.stored.positions_are;
-        as_found = λ f. ((w.as_found z).0, (w.as_found z).1, refl, refl);
-        exactly_when = w.exactly_when;
-        text_told = λ x h e. absurd (z e);
+        as_found = λ f. let o = w.as_found (λ g. subst IsOk z g) in (o.0, o.1, refl, refl);
+        exactly_when = (λ e. absurd (none e), λ h. absurd (subst IsOk z (w.exactly_when.1 h)));
+        text_told = λ x h e. absurd (none e);
       }
 
-pub returns-then-a-eq0 : goal.returns-then-a-eq0
-returns-then-a-eq0 c =
-    accepted _ _ _ _ _ _ _ _ c.parse_idx-a.ensures.0 c.parse_idx-a.ensures.1 c.if-a-eq0.true _
+pub returns-in-Ok : goal.returns-in-Ok
+returns-in-Ok c =
+    accepted _ _ _ _ _ _ _ _ c.parse_idx.ensures.0 c.parse_idx.ensures.1 _ (ap answered c.in-Ok.is) _
     c.idx_numbers_of.ensures
 
-pub returns : goal.returns
-returns c =
-    declined _ _ _ _ _ _ _ _ c.parse_idx-a.ensures.0 c.parse_idx-a.ensures.1 c.if-a-eq0.false
+pub returns-in-Err : goal.returns-in-Err
+returns-in-Err c =
+    rw c.number.ensures (declined _ _ _ _ _ _ _ _ c.parse_idx.ensures.0 c.parse_idx.ensures.1 _ (ap answered c.in-Err.is))

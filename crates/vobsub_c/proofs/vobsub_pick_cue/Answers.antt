@@ -1,68 +1,79 @@
--- `vobsub_c::vobsub_pick_cue` meets its contract: the answer of the layer, taken apart by its refusal. Assumes nothing.
+-- `vobsub_c::vobsub_pick_cue` meets its contract: the answer of the layer, or its refusal. Assumes nothing.
 use Prim.Native.Nat.{ℕ}
-use mathlib.Core.Path.{◌≡◌, refl, sym, ap, ◌∙◌}
-use mathlib.Core.Bool.{Bool, cond}
+use borrow.Author.Rules.{rules}
+use mathlib.Core.Path.{◌≡◌, refl, sym, ap, ◌∙◌, subst}
+use mathlib.Core.Bool.{cond}
 use mathlib.Core.List.{List, [], ◌∷◌}
 use lib.IntN.{ℤ}
 use mir.Facts.{to_z-of_z}
 use mir.Syntax.{w64}
-use borrow.Author.Tests.{eq-eqb, ne_eqb}
+use Rattle.outcome.specs.Outcome.{Res, ok, refuse, IsOk, refusal_of, answered}
+use Rattle.grammar.specs.IndexCues.{duration_of, cues_of}
 use Rattle.idx_model.specs.Text.{idx_of}
-use Rattle.clock_model.specs.Answers.{micros_count}
-use Rattle.idx_model.specs.Answers.{pick_of, cue_answer}
+use Rattle.idx_model.specs.Answers.{Picked, pick_of, cue_answer}
 use Rattle.idx_model.specs.Claim.{CueSays}
 use Rattle.idx_model.specs.declared.CueAnswer.{CueAnswer}
-use Rattle.vobsub_c.specs.Answers.{cue_record, cue_start, cue_palette, CueGiven}
-use Rattle.vobsub_numbers.specs.Numbers.{cue_numbers}
+use Rattle.vobsub_c.specs.Answers.{or_before, CueGiven}
+use Rattle.vobsub_numbers.specs.Numbers.{there, count_in, cue_numbers}
 use Rattle.vobsub_c.proofs.Returned.{cue-returned}
+use Rattle.vobsub_c.proofs.Told.{lasts, counted}
 use Rattle.vobsub_c.proofs.vobsub_pick_cue.Goals as goal
 
-module _ (t : List ℕ) (n : ℕ) (z : ℤ) (px ns : List ℕ) (a : CueAnswer) (q : a ≡ cue_answer (pick_of (idx_of t) n))
-    (w : CueSays t n a) where
+given_ok : (x : Res Picked) → IsOk x → IsOk (cue_answer x)
+unfolding cue_answer
+given_ok (ok l) h = tt
+given_ok (refuse n) h = h
+
+module _ (t : List ℕ) (n : ℕ) (z : ℤ) (px ns : List ℕ) (r : Res CueAnswer) (q : r ≡ cue_answer (pick_of (idx_of t) n))
+    (w : CueSays t n r) where
   -- what is left where nothing is refused; the start goes through 64 bits
-  accepted : a.refused ≡ 0 → (z' : ℤ) → z' ≡ a.start.0 → (ns' : List ℕ) → ns' ≡ cue_numbers a → CueGiven t n z px ns 0 z' a.palette ns'
-  accepted e z' k ns' h =
-      let y = eq-eqb a.refused 0 e in
+  accepted : (a : CueAnswer) → r ≡ ok a → (z' : ℤ) → z' ≡ a.start.0 → (ns' : List ℕ) → ns' ≡ cue_numbers a → CueGiven t n z px ns 0 z' a.palette ns'
+  accepted a e z' k ns' h =
+      let y : ok a ≡ cue_answer (pick_of (idx_of t) n) = sym e ∙ q in
       record {
-        refusal = sym e ∙ ap (λ (o : CueAnswer). o.refused) q;
-        returned = cue-returned t n 0 (sym e ∙ ap (λ (o : CueAnswer). o.refused) q);
-        starts_at = k ∙ sym (ap (λ (b : Bool). cond b a.start.0 z) y) ∙ ap (λ (o : CueAnswer). cue_start o z) q;
-        told = h ∙ sym (ap (λ (b : Bool). cond b (cue_numbers a) ns) y) ∙ ap (λ (o : CueAnswer). cue_record o ns) q;
-        colours = sym (ap (λ (b : Bool). cond b a.palette px) y) ∙ ap (λ (o : CueAnswer). cue_palette o px) q;
+        refusal = ap refusal_of y;
+        returned = cue-returned t n 0 (ap refusal_of y);
+        starts_at = k ∙ ap (λ (o : Res CueAnswer). or_before (λ b. b.start.0) o z) y;
+        told = h ∙ ap (λ (o : Res CueAnswer). or_before cue_numbers o ns) y;
+        colours = ap (λ (o : Res CueAnswer). or_before (λ b. b.palette) o px) y;
         as_found = λ f. absurd (f refl);
-        exactly_when = (λ d. w.exactly_when.0 e, λ d. refl);
-        cue_told = λ x d c f r.
-            let g = w.same x d c f in
+        exactly_when = (λ d. w.exactly_when.0 (subst IsOk (sym e) tt), λ d. refl);
+        cue_told = λ x d c f i.
+            let g = w.same x d c f a e in
             record {
               start_is = k ∙ g.start;
               palette_is = g.palette;
               numbers_are =
                   h
-                  ∙ (λ i.
-                  g.position i ∷ cond (g.lasts i) 1 0 ∷ micros_count (g.duration i) ∷ cond (g.coloured i) 1 0 ∷ []);
+                  ∙ (λ j. g.position j ∷ there (g.duration j) ∷ count_in (g.duration j) ∷ cond (g.coloured j) 1 0 ∷ [])
+                  ∙ (λ j.
+                  c.position ∷ lasts (duration_of (cues_of x) n) j ∷ counted (duration_of (cues_of x) n) j
+                  ∷ cond (g.coloured 1) 1 0 ∷ []);
             };
       }
 
   -- and on a refusal
-  declined : (a.refused ≡ 0 → ⊥) → CueGiven t n z px ns a.refused z px ns
-  declined e =
-      let y = ne_eqb a.refused 0 e in
+  declined : (k : ℕ) → r ≡ refuse k → CueGiven t n z px ns k z px ns
+  declined k e =
+      let y : refuse k ≡ cue_answer (pick_of (idx_of t) n) = sym e ∙ q in
+      let v = cue-returned t n k (ap refusal_of y) in
+      let nothing : k ≡ 0 → ⊥ = λ h. subst IsOk (sym y) (given_ok (pick_of (idx_of t) n) (v.accepted h)) in
       record {
-        refusal = ap (λ (o : CueAnswer). o.refused) q;
-        returned = cue-returned t n a.refused (ap (λ (o : CueAnswer). o.refused) q);
-        starts_at = sym (ap (λ (b : Bool). cond b a.start.0 z) y) ∙ ap (λ (o : CueAnswer). cue_start o z) q;
-        told = sym (ap (λ (b : Bool). cond b (cue_numbers a) ns) y) ∙ ap (λ (o : CueAnswer). cue_record o ns) q;
-        colours = sym (ap (λ (b : Bool). cond b a.palette px) y) ∙ ap (λ (o : CueAnswer). cue_palette o px) q;
+        refusal = ap refusal_of y;
+        returned = v;
+        starts_at = ap (λ (o : Res CueAnswer). or_before (λ b. b.start.0) o z) y;
+        told = ap (λ (o : Res CueAnswer). or_before cue_numbers o ns) y;
+        colours = ap (λ (o : Res CueAnswer). or_before (λ b. b.palette) o px) y;
         as_found = λ f. (refl, refl, refl);
-        exactly_when = w.exactly_when;
-        cue_told = λ x d c f r. absurd (e r);
+        exactly_when = (λ d. absurd (nothing d), λ h. absurd (subst IsOk e (w.exactly_when.1 h)));
+        cue_told = λ x d c f i. absurd (nothing i);
       }
 
-pub returns-then-a-eq0 : goal.returns-then-a-eq0
-returns-then-a-eq0 c =
-    accepted _ _ _ _ _ _ c.pick_cue-a.ensures.0 c.pick_cue-a.ensures.1 c.if-a-eq0.true _
-    (to_z-of_z {w = w64} (record { sfits = c.struct_told-1.given.0.1 })) _ c.cue_numbers_of.ensures
+pub returns-in-Ok : goal.returns-in-Ok
+returns-in-Ok c =
+    accepted _ _ _ _ _ _ c.pick_cue.ensures.0 c.pick_cue.ensures.1 _ (ap answered c.in-Ok.is) _
+    (to_z-of_z {w = w64} (record { sfits = search rules })) _ c.cue_numbers_of.ensures
 
-pub returns : goal.returns
-returns c =
-    declined _ _ _ _ _ _ c.pick_cue-a.ensures.0 c.pick_cue-a.ensures.1 c.if-a-eq0.false
+pub returns-in-Err : goal.returns-in-Err
+returns-in-Err c =
+    rw c.number.ensures (declined _ _ _ _ _ _ c.pick_cue.ensures.0 c.pick_cue.ensures.1 _ (ap answered c.in-Err.is))

@@ -1,7 +1,0 @@
--- `chg_colcon::put` meets its contract: past the end nothing is stored, as `set` has it. Assumes nothing.
-use mathlib.Core.Path.{sym}
-use lib.Seq.{set_out}
-use Rattle.chg_colcon.proofs.put.Goals as goal
-
-pub returns-else-at-out : goal.returns-else-at-out
-returns-else-at-out c = sym (set_out _ _ _ c.if-at-out.false)

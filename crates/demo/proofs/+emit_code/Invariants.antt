@@ -1,5 +1,0 @@
--- `demo::emit_code` ends: each call has a nibble fewer to write.
-use Rattle.demo.proofs.+emit_code.Given as goal
-
-abbrev pub decreases-emit_code : goal.decreases-emit_code
-decreases-emit_code l = l.size

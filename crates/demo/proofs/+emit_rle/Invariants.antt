@@ -1,5 +1,0 @@
--- `demo::emit_rle` ends: each call has a shorter run to write.
-use Rattle.demo.proofs.+emit_rle.Given as goal
-
-abbrev pub decreases-emit_rle : goal.decreases-emit_rle
-decreases-emit_rle l = l.run

@@ -1,0 +1,6 @@
+-- `listing::put_area` meets its contract: four fields. Assumes nothing.
+use Rattle.listing_model.proofs.Laws.{put_put}
+use Rattle.listing.proofs.Line.put_area.Goals as goal
+
+pub returns-clause-put : goal.returns-clause-put
+returns-clause-put c = put_put c.put_field.ensures.put (put_put c.put_field-2.ensures.put (put_put c.put_field-3.ensures.put c.put_field-4.ensures.put))

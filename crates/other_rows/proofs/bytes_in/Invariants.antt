@@ -1,6 +1,0 @@
--- `other_rows::bytes_in` is safe and ends. Assumes nothing.
-use Rattle.std.proofs.Common.{length, ◌-◌}
-use Rattle.other_rows.proofs.bytes_in.Given as goal
-
-abbrev pub decreases-loop-i : goal.decreases-loop-i
-decreases-loop-i g l = length l.s - l.i

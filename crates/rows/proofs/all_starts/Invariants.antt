@@ -1,6 +1,0 @@
--- `rows::all_starts` is safe and ends. Assumes nothing.
-use Rattle.std.proofs.Common.{length, ◌-◌}
-use Rattle.rows.proofs.all_starts.Given as goal
-
-abbrev pub decreases-loop-i : goal.decreases-loop-i
-decreases-loop-i g l = length l.starts - l.i
