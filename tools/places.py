@@ -58,6 +58,19 @@ def types(root):
             yield crate, m[3], m[2], derives, "\n".join(lines[n : end + 1])
 
 
+def parameters(text):
+    """What stands between the round brackets of a function's head, whatever its type parameters are."""
+    depth = 0
+    for n, sign in enumerate(text):
+        if sign == "<":
+            depth += 1
+        elif sign == ">" and text[n - 1] != "-":
+            depth -= 1
+        elif sign == "(" and depth == 0:
+            return re.match(r"\((.*?)\)\s*(->|where|\n|\{|$)", text[n:], re.S)[1]
+    return ""
+
+
 # Point 1
 def answers(root):
     """Enums with a case that says no more than that there is nothing, or that it was refused."""
@@ -175,8 +188,7 @@ def together(root):
     for crate, name, text, _ in functions(root):
         if crate.startswith("vobsub_c"):
             continue
-        m = re.search(r"fn \w+(?:<[^>]*>)?\((.*?)\)\s*(->|\n|\{|$)", text, re.S)
-        given = [re.sub(r"'a ", "", re.sub(r"\s+", " ", p.strip())) for p in m[1].split(",") if ":" in p]
+        given = [re.sub(r"'a ", "", re.sub(r"\s+", " ", p.strip())) for p in parameters(text).split(",") if ":" in p]
         given = [p for p in given if not p.startswith("rt:")]
         for k in range(4, min(len(given), 8) + 1):
             for group in itertools.combinations(given, k):

@@ -89,7 +89,8 @@ fn fill_chain(blocks: Blocks, from: usize, words: &mut [u16])
     }
 }
 
-// The bands of a unit whose control blocks were read before, stored as words.
+// The bands of a unit whose control blocks were read before, stored as words. That they were is asked here and below of the unit itself, as
+// `unit_bands` asks it: a struct would be made once, and taken apart at once.
 // Ruled out: bands of the last colour change alone; words past those of the bands.
 fn fill_bands(unit: &[u8], words: &mut [u16])
     requires { (IsOk (control_at unit.now)) × (length (unit_words unit.now) ≤ length words.old) }

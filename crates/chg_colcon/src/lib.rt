@@ -32,30 +32,28 @@ fn header_of(a: u16, b: u16) -> Header
 fn read_head(p: &[u8]) -> Header
     ensures { result ≡ head_of p.now }
 {
-    if p.len() == 0 {
-        return Header::End;
+    match p {
+        [] => Header::End,
+        [a, b, c, d, ..] => header_of(word(*a, *b), word(*c, *d)),
+        _ => Header::Bad,
     }
-    if p.len() < 4 {
-        return Header::Bad;
-    }
-    header_of(word(p[0], p[1]), word(p[2], p[3]))
 }
 
 // An entry at the front of p that starts at column lo or right of it.
 fn read_entry(p: &[u8], lo: u32) -> Option<EntryWords>
     ensures { result ≡ entry_of p.now lo }
 {
-    if p.len() < 6 {
+    let [a, b, c, d, e, f, ..] = p else {
         return None;
-    }
-    let col = word(p[0], p[1]);
-    if (col as u32) < lo {
+    };
+    let column = word(*a, *b);
+    if (column as u32) < lo {
         return None;
     }
     Some(EntryWords {
-        column: col,
-        selectors: word(p[2], p[3]),
-        alphas: word(p[4], p[5]),
+        column,
+        selectors: word(*c, *d),
+        alphas: word(*e, *f),
     })
 }
 
@@ -72,7 +70,8 @@ fn put3(out: &mut [u16], at: usize, a: u16, b: u16, c: u16)
     put(out, at + 2, c);
 }
 
-// Reads the bands from a header on, `deep` calls deep, and stores their words from `at` on where there is room.
+// Reads the bands from a header on, `deep` calls deep, and stores their words from `at` on where there is room. That place and part stay below
+// 2^64 together is asked of each reader, as both change with every call.
 #[cycle(bands_from_entries_from)]
 fn bands_from(p: &[u8], deep: usize, out: &mut [u16], at: usize) -> Stop
     requires { at + length p.now < 2 ^ 64 }
@@ -140,7 +139,8 @@ struct Run {
 }
 
 // Reads bands from a header on, up to the first that has entries or to what is no band, and stores their words from `from` on where there is
-// room. No reader hands on to the other there, so it is a loop; it goes on by what was read.
+// room. No reader hands on to the other there, so it is a loop: while what stands next is such a header, which takes 4 bytes, and the number of
+// bytes taken is handed back.
 fn bare_bands(p: &[u8], out: &mut [u16], from: usize) -> Run
     requires { from + length p.now < 2 ^ 64 }
     ensures { Ahead p.now (bands_of p.now) (bands_of (drop result.taken p.now)) from out.old result.taken result.at out.new }
@@ -173,7 +173,7 @@ fn inner_entries(p: &[u8], count: u16, least: u32, out: &mut [u16], from: usize)
     let mut at = from;
     let mut left = count;
     let mut lo = least;
-    // It goes on by what was read: no index is counted.
+    // while what stands next is an entry of the band, which takes 6 bytes, and the number of bytes taken is handed back
     while 1 < left {
         let Some(entry) = read_entry(&p[i..], lo) else {
             break;
@@ -254,32 +254,23 @@ pub const MOST_BANDS: usize = 32;
 
 pub const MOST_WORDS: usize = 1536;
 
-// The bands in a payload, whose words were counted and are no more than the array has, in the array if they are not too
-// many.
-fn put_bands(payload: &[u8], count: usize, bands: &mut [u16; 1536]) -> Result<usize, Refusal>
-    requires { (IsOk (bands_of payload.now)) × (count ≡ length (listed (bands_of payload.now))) × (count ≤ 1536) }
-    ensures { Stored payload.now bands.old (answered result) bands.new }
-{
-    let mut words = [0u16; 1536];
-    store_words(payload, &mut words[..], 0)?;
-    if MOST_BANDS < look::count_bands(&words[..count]) {
-        return Err(Refusal::ManyBands);
-    }
-    *bands = words;
-    Ok(count)
-}
-
 // The bands in a payload, at most 32 of them: their words in the front of the array, and 0 after them. On a refusal the
 // array is as found.
 // Ruled out: the array written before the list is known to be whole and short enough; words counted in place of bands.
 pub fn parse_chg_colcon_payload(payload: &[u8], bands: &mut [u16; 1536]) -> Result<usize, Refusal>
     ensures { Stored payload.now bands.old (answered result) bands.new × Says payload.now bands.old bands.new (answered result) }
 {
-    let n = count_words(payload)?;
+    let mut words = [0u16; 1536];
+    // words without room are counted, and not stored
+    let n = read_list(payload, &mut words[..], 0)?;
     if MOST_WORDS < n {
         return Err(Refusal::ManyBands);
     }
-    put_bands(payload, n, bands)
+    if MOST_BANDS < look::count_bands(&words[..n]) {
+        return Err(Refusal::ManyBands);
+    }
+    *bands = words;
+    Ok(n)
 }
 
 // The bands in a payload, which were counted before and for which there is room, stored from place `at` of the words

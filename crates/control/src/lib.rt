@@ -4,7 +4,7 @@
 
 ghost use Rattle.std.specs.Prelude.{◌≡◌, ℕ, ◌≤◌, ◌<◌, ◌+◌, ◌*◌, ◌/◌, ◌%◌, ◌^◌, length, List};
 ghost use Rattle.outcome.specs.Outcome.{answered};
-ghost use Rattle.control_model.specs.CommandBytes.{byte_of};
+ghost use Rattle.control.specs.CommandBytes.{byte_of};
 ghost use Rattle.grammar.specs.Bytes.{byte, word, nibbles};
 ghost use Rattle.std.specs.Prelude.{Some as some};
 ghost use Rattle.grammar.specs.Bands.{Band, band_words};
@@ -16,7 +16,7 @@ ghost use Rattle.control_model.specs.Answers.{spu_of, order_answer, commands_ans
 ghost use Rattle.rle_model.specs.Answers.{nothing};
 
 use clock_model::Ticks;
-use control_model::{AfterCommand, Blocks, CommandKind, Spu};
+use control_model::{AfterCommand, Blocks, Spu};
 use outcome::{Refusal, word};
 
 // The word at place i.
@@ -28,7 +28,7 @@ pub fn word_at(unit: &[u8], i: usize) -> u16
     word(unit[i], unit[i + 1])
 }
 
-// The three nibbles that start with byte q, and the three that end with the byte after it.
+// The three nibbles that start with byte q, and the three that end with the byte after it: two ways to cut a word, a line each.
 fn twelve_from(unit: &[u8], q: usize) -> u16
     requires { q + 2 ≤ length unit.now }
     ensures { result ≡ nibbles unit.now (2 * q) 3 }
@@ -43,6 +43,7 @@ fn twelve_to(unit: &[u8], q: usize) -> u16
     word_at(unit, q) % 4096
 }
 
+// What a command tells of the record, a function each: they set other fields, and promise other commands.
 // A start in a block with this delay: the first counts.
 fn with_start(spu: Spu, delay: u16) -> Spu
     ensures { (t : Told) → spu ≡ spu_of t nothing → result ≡ spu_of (tell delay start t) nothing }
@@ -138,7 +139,46 @@ fn with_area_at(unit: &[u8], p: usize, spu: Spu) -> Spu
     with_area(spu, x1, x2, y1, y2)
 }
 
-// How many bytes of parameters a command other than a colour change has.
+// What a command tells, in the order of the commands' bytes.
+#[derive(Clone, Copy, Debug, PartialEq, Eq)]
+enum CommandKind {
+    ForcedStart,
+    Start,
+    Stop,
+    Selectors,
+    Alphas,
+    Area,
+    Offsets,
+    Colours,
+}
+
+// The command that a byte stands for.
+// Ruled out: another command's; a command for a byte that stands for none.
+impl TryFrom<u8> for CommandKind {
+    ghost use Rattle.std.specs.Prelude.{◌≡◌, ◌<◌, IfOk, IfErr};
+    ghost use Rattle.outcome.specs.declared.Refusal.TheVariants.{UnknownCommand};
+    ghost use Rattle.control.specs.CommandBytes.{byte_of};
+
+    type Error = Refusal;
+
+    ghost try_from_gives = { λ code r. IfOk r (λ k. byte_of k ≡ code) × IfErr r (λ e. (e ≡ UnknownCommand) × (7 < code)) };
+
+    fn try_from(code: u8) -> Result<CommandKind, Refusal> {
+        match code {
+            0 => Ok(CommandKind::ForcedStart),
+            1 => Ok(CommandKind::Start),
+            2 => Ok(CommandKind::Stop),
+            3 => Ok(CommandKind::Selectors),
+            4 => Ok(CommandKind::Alphas),
+            5 => Ok(CommandKind::Area),
+            6 => Ok(CommandKind::Offsets),
+            7 => Ok(CommandKind::Colours),
+            _ => Err(Refusal::UnknownCommand),
+        }
+    }
+}
+
+// How many bytes of parameters a command other than a colour change has, by its byte: `bands` asks it of bytes that were read before.
 // Ruled out: the command's own byte counted; the size of a word for an area.
 pub fn taken(code: u8) -> usize
     requires { code < 7 }
@@ -241,7 +281,7 @@ fn read_chain(blocks: Blocks, from: usize) -> Result<Spu, Refusal>
     requires { (blocks.end < 65536) × (from < 65536) × (length blocks.unit.now < 2 ^ 63) }
     ensures { answered result ≡ chain_answer untold (blocks_at blocks.entry.unit.now blocks.entry.end (some from)) }
 {
-    // Written out, as before the first command each value is named (FORMAT 3.6): Ticks has no Default.
+    // Written out: what each value is before the first command is the format's (FORMAT 3.6), and no default of a type.
     let mut told = Spu {
         x1: 0,
         y1: 0,

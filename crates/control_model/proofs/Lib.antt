@@ -9,4 +9,3 @@ pub mod Fill
 pub mod Few
 pub mod Cards
 pub mod Clock
-pub mod CommandBytes

@@ -4,4 +4,3 @@ pub mod Chain
 pub mod Answers
 pub mod Fill
 pub mod Few
-pub mod CommandBytes

@@ -5,11 +5,10 @@
 ghost use Rattle.std.specs.Prelude.{◌≤◌, length};
 
 use clock_model::Ticks;
-use outcome::Refusal;
 
 // What the commands of a unit tell and what its rows count: the record of a unit, by the names of the original, but for
 // the words of its bands, which do not go from command to command.
-#[derive(Clone, Copy)]
+#[derive(Clone, Copy, Debug, PartialEq, Eq)]
 pub struct Spu {
     // The wide numbers come first and the flags last, so that no byte is unused: unused ones would be carried from
     // command to command too.
@@ -35,7 +34,8 @@ pub struct Spu {
     // Where the two fields start in the unit.
     pub top_rle_off: u16,
     pub bot_rle_off: u16,
-    // Whether there is a start, a stop, a forced start, a colour change.
+    // Whether there is a start, a stop, a forced start, a colour change. A delay is 0 where there is none, and this is said beside it, as the
+    // record is asked to (FORMAT 3.6).
     pub started: bool,
     pub stopped: bool,
     pub forced_display: bool,
@@ -50,47 +50,8 @@ pub struct Blocks<'a> {
     pub ghost inside: { end ≤ length unit.now },
 }
 
-// What a command tells, in the order of the commands' bytes.
-#[derive(Clone, Copy, Debug, PartialEq, Eq)]
-pub enum CommandKind {
-    ForcedStart,
-    Start,
-    Stop,
-    Selectors,
-    Alphas,
-    Area,
-    Offsets,
-    Colours,
-}
-
-// The command that a byte stands for.
-// Ruled out: another command's; a command for a byte that stands for none.
-impl TryFrom<u8> for CommandKind {
-    ghost use Rattle.std.specs.Prelude.{◌≡◌, ◌<◌, IfOk, IfErr};
-    ghost use Rattle.outcome.specs.declared.Refusal.TheVariants.{UnknownCommand};
-    ghost use Rattle.control_model.specs.CommandBytes.{byte_of};
-
-    type Error = Refusal;
-
-    ghost try_from_gives = { λ code r. IfOk r (λ k. byte_of k ≡ code) × IfErr r (λ e. (e ≡ UnknownCommand) × (7 < code)) };
-
-    fn try_from(code: u8) -> Result<CommandKind, Refusal> {
-        match code {
-            0 => Ok(CommandKind::ForcedStart),
-            1 => Ok(CommandKind::Start),
-            2 => Ok(CommandKind::Stop),
-            3 => Ok(CommandKind::Selectors),
-            4 => Ok(CommandKind::Alphas),
-            5 => Ok(CommandKind::Area),
-            6 => Ok(CommandKind::Offsets),
-            7 => Ok(CommandKind::Colours),
-            _ => Err(Refusal::UnknownCommand),
-        }
-    }
-}
-
 // Where the command after one starts, and the record with what that one tells.
-#[derive(Clone, Copy)]
+#[derive(Clone, Copy, Debug, PartialEq, Eq)]
 pub struct AfterCommand {
     pub at: usize,
     pub spu: Spu,

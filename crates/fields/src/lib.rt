@@ -12,7 +12,7 @@ use outcome::Refusal;
 use rle::{Rows, decode_sized, fill_measured, fill_run, measure_field, measure_kept, plus_counts};
 use rle_model::{Counts, Span};
 
-// Two fields of one width: `rows` rows of the upper one, and `more` of the lower one.
+// Two fields of one width: `rows` rows of the upper one, and `more` of the lower one. That both fit a map is asked beside it, as of `Rows`.
 #[derive(Clone, Copy)]
 struct Both<'a> {
     upper: &'a [u8],
@@ -158,6 +158,7 @@ fn decode_both_kept<const N: usize>(both: Both, pixels: &mut [u8]) -> Result<Cou
     decode_both_through(both, &mut kept, pixels)
 }
 
+// As `rle::decode_sized`, with room by the length of the second field.
 fn decode_both(both: Both, pixels: &mut [u8]) -> Result<Counts, Refusal>
     requires { BothFit (length pixels.old) both.width both.rows both.more }
     ensures { BothDecoded both.entry.width (part_rows both.entry.upper.now both.entry.width both.entry.rows) (part_rows both.entry.lower.now both.entry.width both.entry.more) pixels.old (answered result) pixels.new }

@@ -82,7 +82,8 @@ fn seen_line(seen: Seen, line: Option<Directive>, cue: usize, room: usize) -> Re
     }
 }
 
-// All lines: each turn goes on behind the line that was read.
+// All lines: each turn goes on behind the line that was read, which `until` finds eight bytes at a time, as no `split` does. Text, room, cue and palette come here through two tests, each with a promise of
+// its own: a struct of the four would be made once and taken apart once.
 fn measure_lines(
     text: &[u8],
     room: usize,
@@ -183,8 +184,8 @@ fn store_cue(
     n + 1
 }
 
-// The cues of a text that was measured, stored from the front of both buffers on. Its loop is that of `measure_lines`, which stops and
-// counts where this one stores: one walk over a closure would hide from both what the closure changes.
+// The cues of a text that was measured, stored from the front of both buffers on, which are two and parallel as C lends them. Its loop is
+// that of `measure_lines`, which stops and counts where this one stores: one walk over a closure would hide from both what the closure changes.
 fn fill(text: &[u8], starts: &mut [i64], positions: &mut [u32])
     requires { IsOk (lines_with starts.old positions.old text.now) }
     ensures { CuesStored (lines_with starts.old positions.old text.now) starts.old positions.old starts.new positions.new }

@@ -31,6 +31,7 @@ fn parse_size(s: &[u8]) -> Result<Option<Directive>, Refusal>
     let right = trim(&s[a + 1..]);
     let width = unsigned::<10>(left, 6553, 5).ok_or(Refusal::BadWidth)?;
     let height = unsigned::<10>(right, 6553, 5).ok_or(Refusal::BadHeight)?;
+    // both are at most 65,535, so there is no refusal for one that does not fit
     Ok(Some(Directive::Size(width as u16, height as u16)))
 }
 
@@ -89,10 +90,10 @@ fn is_timestamp(l: &[u8]) -> bool
     if eight_at(l, 0) != 7881708861846808948 {
         return false;
     }
-    if l[8] != 112 {
+    if l[8] != b'p' {
         return false;
     }
-    l[9] == 58
+    l[9] == b':'
 }
 
 // What was found so far, and a trimmed part more: the last position counts, and the first other part.
@@ -111,7 +112,8 @@ fn noted<'a>(found: Found<'a>, part: &'a [u8]) -> Found<'a>
     }
 }
 
-// The time and the position among the parts between commas, in one pass: each turn goes on behind the part that was read.
+// The time and the position among the parts between commas, in one pass: each turn goes on behind the part that was read, which `until`
+// finds eight bytes at a time, as no `split` does.
 fn find_parts<'a>(s: &'a [u8]) -> Found<'a>
     ensures { FoundIn s.now result }
 {

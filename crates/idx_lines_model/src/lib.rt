@@ -13,7 +13,7 @@ pub enum Directive {
 }
 
 // The parts of a timestamp that count, trimmed: the time and the position.
-#[derive(Clone, Copy)]
+#[derive(Clone, Copy, Debug, PartialEq, Eq)]
 pub struct Found<'a> {
     pub time: Option<&'a [u8]>,
     pub position: Option<&'a [u8]>,

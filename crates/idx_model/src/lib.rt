@@ -10,6 +10,7 @@ pub struct Seen {
     pub cues: usize,
     pub width: u16,
     pub height: u16,
+    // The colours are there whatever it says: black or greys, where no line gives one (FORMAT 1.9, 1.13). So it is no Option of them.
     pub has_palette: bool,
     // Start and position of the cue that is looked for, and the start of the one after it; 0 until they are met.
     pub start: i64,
@@ -22,6 +23,7 @@ pub struct Seen {
 pub struct IdxAnswer {
     pub width: u16,
     pub height: u16,
+    // Beside a palette that is there in either case, as in `Seen`.
     pub has_palette: bool,
     // Red, green and blue of 16 entries.
     pub palette: [u8; 48],
@@ -35,6 +37,7 @@ pub struct CueAnswer {
     pub position: u32,
     // The time up to the next cue, if another follows.
     pub duration: Option<Micros>,
+    // Beside a palette that is there in either case, as in `Seen`.
     pub has_palette: bool,
     // Red, green and blue of 16 entries.
     pub palette: [u8; 48],

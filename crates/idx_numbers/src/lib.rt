@@ -84,7 +84,7 @@ fn near(s: &[u8], sep: u8) -> usize
     leading(s, |b| *b != sep)
 }
 
-// How many bytes stand before the first sep. Blocks of eight are passed over, each tested at once; the step is held by an edit.
+// How many bytes stand before the first sep. Blocks of eight are passed over, each tested at once: the edit nine_at_once holds the step.
 // Ruled out: the last separator; a part without one taken for empty.
 pub fn until(s: &[u8], sep: u8) -> usize
     ensures { result ≡ length (front (IndexParts.unlike sep) s.now) }
@@ -204,7 +204,7 @@ pub fn unsigned<const BASE: u64>(s: &[u8], most: u64, last: u64) -> Option<u64>
     whole(digits::<BASE>(s, most, last), s.len())
 }
 
-// Without every leading `0x`.
+// Without every leading `0x`. No index is counted: each turn has what the one before left.
 fn strip_0x<'a>(s: &'a [u8]) -> &'a [u8]
     ensures { result.now ≡ bare s.now }
 {

@@ -35,8 +35,8 @@ fn read_all(file: &mut impl Read, buffer: &mut [u8]) -> Option<usize>
     Some(size)
 }
 
-// How many bytes of a file are in the front of the buffer, if it was opened and no read of it failed. More than the longest file that
-// is listed has tell a file that is too long. A path that is no UTF-8 names no file.
+// How many bytes of a file are in the front of the buffer, if it was opened and no read of it failed. A buffer is one byte longer than
+// the longest file that is listed, so that a full one tells a file that is too long. A path that is no UTF-8 names no file.
 fn read_file(rt: &impl Files, path: &[u8], buffer: &mut [u8]) -> Option<usize>
     ensures within { IfSome result (λ n. n ≤ length buffer.new) }
     ensures front { IfSome result (λ n. n ≡ length (take n buffer.new)) }

@@ -83,7 +83,7 @@ impl<'a> Line<'a> {
         self.put_byte(48 + (n % 10) as u8);
     }
 
-    // A number of 64 bits has at most 20 digits.
+    // A number of 64 bits has at most 20 digits. The room is asked of each, as how much a line may take differs from one to the next.
     #[tactic(auto, using(listing_model::proofs::Laws::number_short))]
     fn put_number(&mut self, n: u64)
         requires { self.old.len + 20 ≤ 256 }
@@ -151,7 +151,7 @@ impl<'a> Line<'a> {
         self.put_field(height);
     }
 
-    // Both delays and the number of codes, and the end of the line.
+    // Both delays and the number of codes, and the end of the line: a list of fields as `put_area` is, of another length.
     // Ruled out: the delay of the stop before that of the start.
     fn put_delays(&mut self, start: u64, stop: u64, codes: u64)
         requires { self.old.len + 64 ≤ 256 }
@@ -254,6 +254,7 @@ fn put_cue(
 
 // The line of cue n, of the first `cues` that the two buffers hold, and its length. A unit that packets hold is joined in the front of
 // scratch.
+// The two buffers are those that `idx::parse_idx` fills, as C lends them.
 // Ruled out: a cue's line with the times of another; a line that is refused where the files have a reading for the cue
 // and stream 0.
 pub fn cue_line(
@@ -297,7 +298,7 @@ pub fn cue_line(
 
 // The first line of a title, and its cues in the front of both buffers. `there` says that both files are there; the index is read only
 // where neither is too long. Such a text has at most 65,537 lines, and one cue where it has no bytes, so the buffers
-// hold every cue.
+// hold every cue. An Option of each file would have four cases, where one flag has the two that are asked.
 // Ruled out: the index read before the size of the other file is known; cues of an index that is refused.
 pub fn title_line(
     there: bool,

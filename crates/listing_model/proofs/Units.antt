@@ -39,7 +39,7 @@ use Rattle.spu_model.specs.Answers.{spu_answer}
 use Rattle.spu_model.proofs.Loops.{known}
 use Rattle.listing_model.specs.Lines.{shown_line, refused_line}
 use Rattle.listing_model.specs.Title.{list_stream, shown_at, unit_for, timed_for, line_of}
-use Rattle.listing_model.specs.Answers.{Put, record_shown, position_line}
+use Rattle.listing_model.specs.Answers.{Put, record_shown, unit_line, position_line}
 use Rattle.listing_model.proofs.Laws.{put_as}
 use Rattle.rle_model.specs.Answers.{nothing, listed_counts}
 
@@ -242,10 +242,10 @@ unfolding timed_for
 none-record z f bytes p s s' r m long d h = rw (sym (unit-none f bytes p s s' long r d m h))
 
 module _ (n : ℕ) (z : ℤ) (o : Option ℕ) (f : List ℕ) (p : ℕ) {l l' : List ℕ} {at k v : ℕ} where
-  pub shows-line : (y : ℤ) → y ≡ z → (s : Spu) → ok s ≡ spu_answer (timed_for z f p)
+  pub shows-position : (y : ℤ) → y ≡ z → (s : Spu) → ok s ≡ spu_answer (timed_for z f p)
       → Put k l at (shown_line n (record_shown y o s)) v l' → Put k l at (position_line n z o f p) v l'
   unfolding spu_of shown_line
-  shows-line y e s d q = put_as (go (timed_for z f p) d) q
+  shows-position y e s d q = put_as (go (timed_for z f p) d) q
     where
       go : (m : Res ListedUnit) → ok s ≡ spu_answer m → shown_line n (record_shown y o s) ≡ line_of n (map_res (shown_at z o) m)
       go (refuse m) g = ok-not-refuse (sym g)
@@ -259,6 +259,56 @@ module _ (n : ℕ) (z : ℤ) (o : Option ℕ) (f : List ℕ) (p : ℕ) {l l' : L
       go : (x : Res ListedUnit) → refuse m ≡ spu_answer x → refused_line n m ≡ line_of n (map_res (shown_at z o) x)
       go (ok x) g = ok-not-refuse g
       go (refuse j) g = ap (refused_line n) (refuse-injective g)
+
+-- ---- The line of a unit, and of a position by its unit
+
+module _ (n : ℕ) (z : ℤ) (o : Option ℕ) {l l' : List ℕ} {at k : ℕ} where
+  -- a unit that is not refused, by its times
+  module _ (u : List ℕ) (r : Res Spu) (s : Spu) (d : r ≡ spu_answer (unit_at u)) (q : r ≡ ok s)
+      (t : Res Times)
+      (g : t ≡ times_answer z (delayed s.started s.start_delay_raw.0) (delayed s.stopped s.stop_delay_raw.0)) where
+    pub shows-line : (y : ℤ) → y ≡ z → (v : ℕ) (x : Times) → t ≡ ok x
+        → Put k l at (shown_line n (record_shown y o s)) v l' → Put k l at (unit_line n z o u) v l'
+    unfolding spu_of shown_line
+    shows-line y e v x h p = put_as (go (unit_at u) (sym q ∙ d)) p
+      where
+        go : (m : Res ListedUnit) → ok s ≡ spu_answer m
+            → shown_line n (record_shown y o s) ≡ line_of n (map_res (shown_at z o) (unit_in_time z m))
+        go (refuse m) f = ok-not-refuse (sym f)
+        go (ok m) f =
+            let w : s ≡ spu_of (told m.blocks) (counts_of m) = ok-injective f in
+            rw (told_stay_lem z s (told m.blocks) (counts_of m) w t g x h).0
+            (ap (λ (i : Spu). shown_line n (record_shown y o i)) w ∙ ap (λ (i : ℤ). shown_line n (record_shown i o (spu_of (told m.blocks) (counts_of m)))) e)
+
+    pub late-line : (j v : ℕ) → t ≡ refuse j → Put k l at (refused_line n j) v l' → Put k l at (unit_line n z o u) v l'
+    late-line j v h p = put_as (go (unit_at u) (sym q ∙ d)) p
+      where
+        go : (m : Res ListedUnit) → ok s ≡ spu_answer m
+            → refused_line n j ≡ line_of n (map_res (shown_at z o) (unit_in_time z m))
+        go (refuse m) f = ok-not-refuse (sym f)
+        go (ok m) f =
+            let i = told-leave z s (told m.blocks) (counts_of m) (ok-injective f) t g j h in
+            rw i.0 (ap (refused_line n) i.1)
+
+  pub refuses-line : (u : List ℕ) (r : Res Spu) (m v : ℕ) → r ≡ spu_answer (unit_at u) → r ≡ refuse m
+      → Put k l at (refused_line n m) v l' → Put k l at (unit_line n z o u) v l'
+  refuses-line u r m v d q p = put_as (go (unit_at u) (sym q ∙ d)) p
+    where
+      go : (x : Res ListedUnit) → refuse m ≡ spu_answer x
+          → refused_line n m ≡ line_of n (map_res (shown_at z o) (unit_in_time z x))
+      go (ok i) f = ok-not-refuse f
+      go (refuse j) f = ap (refused_line n) (refuse-injective f)
+
+  -- of the unit's bytes
+  pub part-line : (u w : List ℕ) (v : ℕ) → u ≡ w → Put k l at (unit_line n z o u) v l' → Put k l at (unit_line n z o w) v l'
+  part-line u w v q p = put_as (ap (unit_line n z o) q) p
+
+pub found-line : (n : ℕ) (z : ℤ) (o : Option ℕ) {l l' : List ℕ} {at k : ℕ} (v : ℕ) (f : List ℕ) (bytes : (i : ℕ) → Fits w8 (byte f i)) (p : ℕ) (s s' : List ℕ) (r : Res UnitAt)
+    → length s ≡ 65536
+    → Extracted f p list_stream s r s' → ((j : ℕ) → r ≡ refuse j → ⊥) → Put k l at (unit_line n z o (unit_part f s' p r)) v l' → Put k l at (position_line n z o f p) v l'
+unfolding timed_for
+found-line n z o v f bytes p s s' r long d h q =
+    put_as (ap (λ (x : Res ListedUnit). line_of n (map_res (shown_at z o) (unit_in_time z x))) (unit-found f bytes p s s' long r d h)) q
 
 -- and what is shown there has a size
 pub position-sides : (z : ℤ) (f : List ℕ) (p : ℕ) (s : Spu) → ok s ≡ spu_answer (timed_for z f p) → (s.x1 ≤ s.x2) × (s.y1 ≤ s.y2)

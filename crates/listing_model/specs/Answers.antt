@@ -9,7 +9,9 @@ use Rattle.grammar.specs.Packets.{Packet, stream_id}
 use Rattle.grammar.specs.Streams.{Walk, Alike}
 use Rattle.grammar.specs.Reading.{wanted, Reading, IsReading, Shown, shown}
 use Rattle.grammar.specs.Times.{show_time, hide_time}
+use Rattle.clock_model.specs.Clock.{unit_in_time}
 use Rattle.clock_model.specs.Answers.{delayed}
+use Rattle.spu_model.specs.Unit.{unit_at}
 use Rattle.control_model.specs.declared.Spu.{Spu}
 use Rattle.ps_model.specs.Answers.{unit_stored}
 use Rattle.listing_model.specs.Lines.{refused_line, shown_line}
@@ -52,7 +54,11 @@ record_shown start duration s =
       clipped = s.clipped;
     }
 
--- the line of cue n with these times and the unit at this position in the file f
+-- the line of cue n with these times and the unit u
+abbrev pub unit_line : ℕ → ℤ → Option ℕ → List ℕ → List ℕ
+unit_line n start duration u = line_of n (map_res (shown_at start duration) (unit_in_time start (unit_at u)))
+
+-- and with this position in the file f
 abbrev pub position_line : ℕ → ℤ → Option ℕ → List ℕ → ℕ → List ℕ
 position_line n start duration f p = line_of n (map_res (shown_at start duration) (timed_for start f p))
 

@@ -30,6 +30,7 @@ fn look_entries(words: &[u16], n: usize, x: u16, before: Option<Four>) -> Option
 {
     let mut look = before;
     for i in 0..n {
+        // by place: the edit leftmost holds the step
         let at = 3 * i;
         look = pick_entry(x, words[at], words[at + 1], words[at + 2], look);
     }
@@ -46,7 +47,8 @@ struct StoredBand<'a> {
     rest: &'a [u16],
 }
 
-// The band in front of stored words, cut where they end. Any words are read; fewer than three say nothing.
+// The band in front of stored words, cut where they end. Any words are read; fewer than three say nothing. Three walks go from band to band by
+// it and count no index; an iterator would have to state what its steps give before any of the three could say less.
 fn front_band(words: &[u16]) -> Option<StoredBand<'_>>
     ensures none { result ≡ None → length words.now < 3 }
     ensures some { IfSome result (λ b. IsFront words.now b.first b.last b.count b.words.now b.rest.now) }

@@ -85,10 +85,6 @@ fn delay_of(stands: usize, delay: usize) -> Option<Ticks> {
     (stands == 1).then_some(ticks(delay))
 }
 
-fn micros_or_0(time: Option<Micros>) -> i64 {
-    time.map_or(0, |micros| micros.0)
-}
-
 fn times(rt: &impl Print, row: &Row<'_>) -> io::Result<()> {
     let Some(start) = start_of(row.given(0), row.given(1)) else {
         return Ok(());
@@ -97,9 +93,9 @@ fn times(rt: &impl Print, row: &Row<'_>) -> io::Result<()> {
     let stops = delay_of(row.given(4), row.given(5));
     match clock::times_of(Micros(start), starts, stops) {
         Ok(t) => {
-            let show = micros_or_0(t.show);
+            let show = vobsub_numbers::time_in(t.show);
             let hides = u8::from(t.hide.is_some());
-            let hide = micros_or_0(t.hide);
+            let hide = vobsub_numbers::time_in(t.hide);
             print!(rt; ": show {show}, hides {hides}, hide {hide}")
         }
         Err(refusal) => write_refused(rt, refusal),

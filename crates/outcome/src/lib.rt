@@ -123,14 +123,6 @@ impl Refusal {
     }
 }
 
-impl From<Refusal> for u8 {
-    ghost from_gives = { λ e n. n ≡ number_of e };
-
-    fn from(e: Refusal) -> u8 {
-        e.number()
-    }
-}
-
 // The lesser of two numbers.
 // Ruled out: the greater of the two; the first whatever the second is.
 pub fn lesser(a: usize, b: usize) -> usize

@@ -234,7 +234,7 @@ fn canvas(bytes: &[u8], a: usize, b: usize, c: usize) -> Option<Answer> {
     Some(sum.beside(refusal))
 }
 
-// What the row of a class with these bytes and four numbers is answered with.
+// What the row of a class, a byte of the list, with these bytes and four numbers is answered with.
 fn answer_of(class: u8, bytes: &[u8], numbers: [usize; 4]) -> Option<Answer> {
     let [a, b, c, d] = numbers;
     match class {
@@ -304,21 +304,16 @@ fn replay_class(rt: &impl Print, input: &mut impl Read, name: &str) -> io::Resul
     println!(rt; "{name}: {what} {count}, {differ} differ")
 }
 
-fn replay(rt: &(impl Input + Print)) -> io::Result<()> {
+fn main(rt: HostRuntime) {
     let mut input = rt.reader();
     // how the list was made, in words
     let mut words = [0; 128];
     if input.read_exact(&mut words).is_ok() {
-        rt.write_all(&words[..])?;
+        let _ = rt.write_all(&words[..]);
     }
     for name in [
         "pes", "packets", "bands", "control", "fields", "units", "written", "idx", "cue", "canvas",
     ] {
-        replay_class(rt, &mut input, name)?;
+        let _ = replay_class(&rt, &mut input, name);
     }
-    Ok(())
-}
-
-fn main(rt: HostRuntime) {
-    let _ = replay(&rt);
 }

@@ -16,7 +16,8 @@ use nibbles::NibbleReader;
 use outcome::{Refusal, put};
 use rle_model::Counts;
 
-// Rows of a picture of that width: the first from place `start` of the map on, each next one two rows on.
+// Rows of a picture of that width: the first from place `start` of the map on, each next one two rows on. That they are inside the map
+// is asked beside it: the fact is of rows and map, and a struct that held the lent map too would have each function say that it is the same.
 #[derive(Clone, Copy, Debug, PartialEq, Eq)]
 pub struct Rows {
     pub width: usize,
@@ -83,7 +84,8 @@ fn measure_row(
     Ok(row_counts(codes, clipped))
 }
 
-// A run of one colour.
+// A run of one colour. By place, and no `fill`, which stores the last pixel by itself: on runs of four pixels it takes 26.0 ms for 24.3
+// (docs/DECISIONS.md, "Run codes").
 // Ruled out: a pixel past the run; the pixels before it changed.
 pub fn fill_run(pixels: &mut [u8], start: usize, count: usize, colour: u8)
     requires { start + count ≤ length pixels.old }
@@ -256,6 +258,7 @@ fn decode_kept<const N: usize>(
     decode_through(field, rows, &mut kept, pixels)
 }
 
+// The ladder is that of `fields::decode_both`, over other rows: each size is a constant of its own call.
 // Ruled out: rows painted before the last is known to be whole; a count of what was kept instead of what was read.
 pub fn decode_sized(field: &[u8], rows: Rows, pixels: &mut [u8]) -> Result<Counts, Refusal>
     requires { (rows.width ≤ length pixels.old) × (rows.start + rows.count * (2 * rows.width) ≤ length pixels.old + rows.width) }

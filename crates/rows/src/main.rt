@@ -117,7 +117,7 @@ fn write_part(rt: &impl Print, s: &[u8], from: usize, length: usize) -> io::Resu
     let Some(rest) = s.get(from..) else {
         return Ok(());
     };
-    run_rows::write_bytes(rt, &rest[..outcome::lesser(length, rest.len())])
+    run_rows::write_bytes(rt, &rest[..length.min(rest.len())])
 }
 
 fn packets(rt: &impl Print, row: &Row<'_>) -> io::Result<()> {

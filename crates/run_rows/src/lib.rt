@@ -105,6 +105,7 @@ pub fn each_row<F: Fn(&Row<'_>) -> io::Result<()>>(rt: &(impl Input + Print), an
 {
     let mut text = [0; 65536];
     let mut input = rt.reader();
+    // every loop of a proved function ends
     for _ in 0..usize::MAX {
         let n = next_line(&mut input, &mut text);
         if n == 0 {

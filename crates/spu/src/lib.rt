@@ -53,10 +53,11 @@ fn bottom_field(control: usize, bottom: usize) -> Option<Span>
 pub fn with_counts(spu: Spu, counts: Counts) -> Spu
     ensures { (t : Told) → spu ≡ spu_of t nothing → result ≡ spu_of t counts }
 {
-    let mut s = spu;
-    s.codes = counts.codes;
-    s.clipped = counts.clipped;
-    s
+    Spu {
+        codes: counts.codes,
+        clipped: counts.clipped,
+        ..spu
+    }
 }
 
 // A unit and what its control blocks tell.
@@ -101,7 +102,8 @@ impl<'a> Parsed<'a> {
         fields::measure_fields(self.unit, l.top, l.bottom, l.width, l.height)
     }
 
-    // The same rows in the index map, which is as found on a refusal.
+    // The same rows in the index map, which is as found on a refusal. The two share the layout and the test alone: what they call and promise
+    // is each its own.
     fn decode_rows(&self, pixels: &mut [u8]) -> Result<Counts, Refusal>
         requires { (bs : List Block) × (control_at self.now.unit.now ≡ ok bs) × (width (told bs) * height (told bs) ≤ length pixels.old) }
         ensures { (bs : List Block) → control_at self.now.unit.now ≡ ok bs → RowsDecoded self.now.unit.now (told bs) pixels.old (answered result) pixels.new }

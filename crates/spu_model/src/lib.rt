@@ -5,7 +5,7 @@ use control_model::Spu;
 use rle_model::Span;
 
 // The record of a unit with its bands in it.
-#[derive(Clone, Copy)]
+#[derive(Clone, Copy, Debug, PartialEq, Eq)]
 pub struct Record {
     pub spu: Spu,
     // The words of the bands, as many as `band_words`, and 0 after them: an array beside its length, as the record has
@@ -14,7 +14,7 @@ pub struct Record {
 }
 
 // The size of a picture, and where its fields stand in the unit.
-#[derive(Clone, Copy)]
+#[derive(Clone, Copy, Debug, PartialEq, Eq)]
 pub struct Layout {
     pub width: usize,
     pub height: usize,

@@ -77,15 +77,11 @@ impl<'a> Map<'a> {
     }
 }
 
-// Four stores: the library's copy of a slice goes by a length that it is told.
 fn put4(p: [u8; 4], canvas: &mut [u8], at: usize)
     requires { at + 4 ≤ length canvas.old }
     ensures { canvas.new ≡ sets canvas.old at p }
 {
-    canvas[at] = p[0];
-    canvas[at + 1] = p[1];
-    canvas[at + 2] = p[2];
-    canvas[at + 3] = p[3];
+    canvas[at..at + 4].copy_from_slice(&p);
 }
 
 fn at_most_3(c: u8) -> usize
@@ -94,8 +90,8 @@ fn at_most_3(c: u8) -> usize
     usize::from(c).min(3)
 }
 
-// A line from its four colours and its pixels' colour numbers alone. The canvas is written by place: what is written
-// through `chunks_exact_mut` is not known afterwards.
+// A line from its four colours and its pixels' colour numbers alone. The canvas is written by place, and each function asks for room from
+// there on: what is written through `chunks_exact_mut` is not known afterwards.
 fn paint_plain(colours: [u8; 16], row: &[u8], canvas: &mut [u8], at: usize)
     requires { at + 4 * length row.now ≤ length canvas.old }
     ensures { canvas.new ≡ sets canvas.old at (table_line colours row.now) }
@@ -126,7 +122,7 @@ impl<'a> Style<'a> {
         ]
     }
 
-    // The pixels of the four colours that the unit has for its own.
+    // The pixels of the four colours that the unit has for its own, in one row, as the definition has them.
     fn four_colours(&self) -> [u8; 16]
         ensures { result ≡ four_colours self.now.palette (look_is self.now.own.selectors self.now.own.alphas) }
     {
@@ -144,10 +140,7 @@ impl<'a> Style<'a> {
     fn look_at(&self, place: Place) -> Four
         ensures { SameLook result (word_look self.now.words.now (look_is self.now.own.selectors self.now.own.alphas) place.x place.y) }
     {
-        match look::chg_colcon_lookup(self.words, place.x, place.y) {
-            Some(four) => four,
-            None => self.own,
-        }
+        look::chg_colcon_lookup(self.words, place.x, place.y).unwrap_or(self.own)
     }
 
     // A line under a band, place by place.
@@ -219,7 +212,7 @@ fn shown_of(c: CueAnswer, s: Spu, times: Times) -> Shown
 }
 
 // The refusal of a unit whose control blocks tell `spu` and whose times leave. Nothing is stored yet, so that its rows,
-// which may be refused first, are only measured.
+// which may be refused first, are only measured. Unit and record stand apart, as in `paint_told`.
 // Ruled out: a time that leaves before rows that are refused.
 fn late_refusal(unit: &[u8], spu: Spu) -> Refusal
     requires { (bs : List Block) × (control_at unit.now ≡ ok bs) × (spu ≡ spu_of (told bs) nothing) }
@@ -230,7 +223,7 @@ fn late_refusal(unit: &[u8], spu: Spu) -> Refusal
         .unwrap_or(Refusal::LongInstant)
 }
 
-// A delay of a record, where its command stands.
+// A delay of a record, where its command stands, which the record says beside it.
 fn delay_of(given: bool, delay: Ticks) -> Option<Ticks>
     ensures { delay_in result ≡ delayed given delay.0 }
 {
@@ -263,6 +256,7 @@ fn paint_told(
     }
     let starts = delay_of(spu.started, spu.start_delay_raw);
     let stops = delay_of(spu.stopped, spu.stop_delay_raw);
+    // another refusal may come first, so that of the times is not handed on
     let Ok(times) = clock::times_of(c.start, starts, stops) else {
         return Err(late_refusal(unit, spu));
     };

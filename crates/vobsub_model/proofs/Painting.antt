@@ -1,13 +1,12 @@
 -- Painting pixel by pixel, from four colours, and line by line. Assumes nothing.
 use Prim.Native.Nat.{ℕ, zero, suc, ◌+◌, ◌-◌, ◌*◌, ◌%◌, ◌≤◌, ◌<◌, min}
 use native.Mathlib.Nat.{mul-le-mul_right}
-use native.Mathlib.Numerals.{add-one, add-two, add-three}
 use native.Mathlib.Omega.{arith}
 use mathlib.Core.Path.{◌≡◌, refl, sym, ap, ◌∙◌, subst}
 use mathlib.Core.Bool.{Bool, true, false, cond}
 use Rattle.std.specs.Prelude.{Option, Some as some, None as none}
 use mathlib.Core.List.{List, [], ◌∷◌, ◌++◌}
-use lib.ListN.{length, get_or, take, drop, set, length-drop, length-set}
+use lib.ListN.{length, get_or, take, drop, length-drop}
 use lib.Dec.{eqb}
 use lib.Seq.{sets, slice, drop-cons, drop-drop, length-sets, length-take-le}
 use borrow.Author.Tests.{ne_eqb}
@@ -125,28 +124,6 @@ module _ (ws : List ℕ) (own : Look) (x y : ℕ) (r : Option Four) (q : told r 
       (ap (λ (o : Option Look). (or_own own o).selectors) (sym f), ap (λ (o : Option Look). (or_own own o).alphas) (sym f))
 
 -- ---- A line, four bytes at a time
-
-pub room_2 : (l : List ℕ) (i a b : ℕ) → i + 4 ≤ length l → i + 2 < length (set (set l i a) (i + 1) b)
-room_2 l i a b h = rw (length-set (set l i a) (i + 1) b, length-set l i a) (omega arith)
-
-pub room_3 : (l : List ℕ) (i a b d : ℕ) → i + 4 ≤ length l → i + 3 < length (set (set (set l i a) (i + 1) b) (i + 2) d)
-room_3 l i a b d h = rw (length-set (set (set l i a) (i + 1) b) (i + 2) d, length-set (set l i a) (i + 1) b, length-set l i a) (omega arith)
-
-four_stores : (l : List ℕ) (i a b d e : ℕ) → set (set (set (set l i a) (i + 1) b) (i + 2) d) (i + 3) e ≡ sets l i (a ∷ b ∷ d ∷ e ∷ [])
-four_stores l i a b d e = rw (add-one i, add-two i, add-three i)
-
--- a list of four
-four_of : (p : List ℕ) → length p ≡ 4 → get_or p 0 0 ∷ get_or p 1 0 ∷ get_or p 2 0 ∷ get_or p 3 0 ∷ [] ≡ p
-four_of [] e = absurd (omega (arith, e))
-four_of (a ∷ []) e = absurd (omega (arith, e))
-four_of (a ∷ b ∷ []) e = absurd (omega (arith, e))
-four_of (a ∷ b ∷ d ∷ []) e = absurd (omega (arith, e))
-four_of (a ∷ b ∷ d ∷ e ∷ []) q = refl
-four_of (a ∷ b ∷ d ∷ e ∷ f ∷ l) q = absurd (omega (arith, q))
-
-pub pixel_stored : (l : List ℕ) (i : ℕ) (p : List ℕ) → length p ≡ 4
-    → set (set (set (set l i (get_or p 0 0)) (i + 1) (get_or p 1 0)) (i + 2) (get_or p 2 0)) (i + 3) (get_or p 3 0) ≡ sets l i p
-pixel_stored l i p e = four_stores l i _ _ _ _ ∙ ap (sets l i) (four_of p e)
 
 sets-four : (s : List ℕ) (i a b d e : ℕ) (l : List ℕ) → sets s i (a ∷ b ∷ d ∷ e ∷ l) ≡ sets (sets s i (a ∷ b ∷ d ∷ e ∷ [])) (i + 4) l
 sets-four s i a b d e l = sets-append s i (a ∷ b ∷ d ∷ e ∷ []) l

@@ -18,7 +18,8 @@ fn count_in(m: Option<Micros>) -> u64
 }
 
 // The time, 0 where there is none.
-fn time_in(m: Option<Micros>) -> i64
+// Ruled out: another number where there is none.
+pub fn time_in(m: Option<Micros>) -> i64
     ensures { result ≡ time_in m }
 {
     m.map_or(0, |time| time.0)

@@ -3,14 +3,14 @@ use borrow.Author.Tests.{lt-ltb, le-ltb}
 use Rattle.bands_model.specs.Bands.{entry_of}
 use Rattle.chg_colcon.proofs.read_entry.Goals as goal
 
-pub returns-then-p-lt6 : goal.returns-then-p-lt6
+pub returns-in_default : goal.returns-in_default
 unfolding entry_of
-returns-then-p-lt6 c = simp (lt-ltb _ _ c.if-p-lt6.true)
+returns-in_default c = simp (lt-ltb _ _ c.in_default.len_below)
 
-pub returns-then-col-lo : goal.returns-then-col-lo
+pub returns-then-column-lo : goal.returns-then-column-lo
 unfolding entry_of
-returns-then-col-lo c = simp (le-ltb _ _ c.if-p-lt6.false, ← c.word-col.ensures, lt-ltb _ _ c.if-col-lo.true)
+returns-then-column-lo c = simp (le-ltb _ _ c.in-len6-up.len_at_least, ← c.word-column.ensures, lt-ltb _ _ c.if-column-lo.true)
 
 pub returns : goal.returns
 unfolding entry_of
-returns c = simp (le-ltb _ _ c.if-p-lt6.false, ← c.word-col.ensures, ← c.word.ensures, ← c.word-2.ensures, le-ltb _ _ c.if-col-lo.false)
+returns c = simp (le-ltb _ _ c.in-len6-up.len_at_least, ← c.word-column.ensures, ← c.word.ensures, ← c.word-2.ensures, le-ltb _ _ c.if-column-lo.false)

@@ -4,9 +4,9 @@ use Prim.Native.Nat.{◌+◌, ◌<◌}
 use mathlib.Core.Path.{◌∙◌, ap, sym}
 use Rattle.std.proofs.lemmas.Result.{err_from_is_err_and}
 use Rattle.grammar.specs.Bytes.{byte}
-use Rattle.control_model.specs.CommandBytes.{byte_of}
+use Rattle.control.specs.CommandBytes.{byte_of}
 use Rattle.control_model.specs.Answers.{order_answer}
-use Rattle.control_model.proofs.CommandBytes.{plain-byte}
+use Rattle.control.proofs.CommandBytes.{plain-byte}
 use Rattle.control_model.proofs.Told.{told-as}
 use Rattle.control_model.proofs.Loops.{order_change, order_unknown, order-cut, order-told}
 use Rattle.control.proofs.read_command.Goals.{In_default}

@@ -1,7 +1,7 @@
 -- `control::with_order` meets its contract: by the command's byte. Assumes nothing.
 use native.Mathlib.Omega.{arith}
 use mathlib.Core.Path.{ap}
-use Rattle.control_model.specs.CommandBytes.{byte_of}
+use Rattle.control.specs.CommandBytes.{byte_of}
 use Rattle.grammar.specs.Control.{selectors, alphas}
 use Rattle.control_model.proofs.Told.{told-as, size-as, given-one, given-two}
 use Rattle.control_model.specs.Chain.{plain_at}
@@ -59,6 +59,3 @@ pub returns-in-Offsets : goal.returns-in-Offsets
 unfolding plain_at
 returns-in-Offsets c =
     λ t e. told-as c.args.unit.now c.args.p 6 _ c.args.delay t _ (ap byte_of c.in-Offsets.is) (given-two c.args.delay _ _ _ _ c.word_at-in-Offsets.ensures c.word_at-in-Offsets-2.ensures t (c.with_offsets.ensures t c.args.delay e))
-
-pub returns-in-Colours : goal.returns-in-Colours
-returns-in-Colours c = let e = ap byte_of c.in-Colours.is in absurd (omega (arith, e, c.requires.0))

@@ -4,14 +4,6 @@ use Rattle.idx_model.proofs.Loops.{line-in}
 use Rattle.idx_model.proofs.Stores.{filling-starts, fill_fits, filling-next, filling_done, long-starts, long_positions}
 use Rattle.idx.proofs.fill.Goals as goal
 
-pub shape_of-starts-then-e-text : goal.shape_of-starts-then-e-text
-shape_of-starts-then-e-text c =
-    long-starts c.args.text.now c.loop-palette.i c.until.result c.loop-palette.invariant.inside c.until.ensures c.trim-l.result.now c.trim-l.ensures _ _ c.read_line-line.result c.read_line-line.ensures c.args.starts.now c.args.positions.now c.loop-palette.starts c.loop-palette.positions c.loop-palette.n c.loop-palette.invariant _ _ _ c.store_cue-n.ensures
-
-pub shape_of-positions-then-e-text : goal.shape_of-positions-then-e-text
-shape_of-positions-then-e-text c =
-    long_positions c.args.text.now c.loop-palette.i c.until.result c.loop-palette.invariant.inside c.until.ensures c.trim-l.result.now c.trim-l.ensures _ _ c.read_line-line.result c.read_line-line.ensures c.args.starts.now c.args.positions.now c.loop-palette.starts c.loop-palette.positions c.loop-palette.n c.loop-palette.invariant _ _ _ c.store_cue-n.ensures
-
 pub returns-then-e-text : goal.returns-then-e-text
 returns-then-e-text c =
     filling_done c.args.text.now c.loop-palette.i c.until.result c.loop-palette.invariant.inside c.until.ensures c.trim-l.result.now c.trim-l.ensures _ _ c.read_line-line.result c.read_line-line.ensures c.args.starts.now c.args.positions.now c.loop-palette.starts c.loop-palette.positions c.loop-palette.n c.loop-palette.invariant _ _ _ c.store_cue-n.ensures c.if-e-text.true

@@ -12,8 +12,5 @@ loop-b-preserved c =
       | else-b-ge128 w ↦ w.low-is ∙ low-kept c.args.s.now c.loop-b.low c.loop-b.b-index c.loop-b.invariant c.loop-b-test.true w.if-b-ge128.false
     ]
 
-pub returns : goal.returns
-returns c = low-done c.args.s.now c.loop-b.low c.loop-b.b-index c.loop-b.invariant (omega arith)
-
 pub loop-b-init : goal.loop-b-init
 loop-b-init c = low-starts c.args.s.now

@@ -4,15 +4,8 @@ use Rattle.grammar.specs.IndexParts.{unlike}
 use Rattle.idx_numbers_model.proofs.Loops.{skip_block, near-end, front-le}
 use Rattle.idx_numbers.proofs.until.Goals as goal
 
-pub returns-then-eight_have : goal.returns-then-eight_have
-returns-then-eight_have c =
-    near-end _ _ _ c.loop-i.invariant.0 c.loop-i.invariant.1 _ c.near.ensures
-
 pub loop-i-preserved : goal.loop-i-preserved
 loop-i-preserved c = (omega arith, skip_block _ _ _ c.loop-i.invariant.0 c.loop-i.invariant.1 _ c.eight_have.ensures c.if-eight_have.false (omega arith))
-
-pub returns : goal.returns
-returns c = near-end _ _ _ c.loop-i.invariant.0 c.loop-i.invariant.1 _ c.near-2.ensures
 
 pub overflow_add-result : goal.overflow_add-result
 overflow_add-result c =

@@ -4,7 +4,7 @@ use mathlib.Core.Path.{sym, ap, ◌∙◌}
 use mir.Syntax.{w64}
 use mir.Facts.{to_z-of_z}
 use Rattle.outcome.specs.Outcome.{answered}
-use Rattle.listing_model.proofs.Units.{shows-line, position-sides}
+use Rattle.listing_model.proofs.Units.{shows-position, position-sides}
 use Rattle.listing.proofs.put_cue.Goals as goal
 
 pub put_shown-requires : goal.put_shown-requires
@@ -14,7 +14,7 @@ put_shown-requires c =
 
 pub returns-in-Ok-clause-put : goal.returns-in-Ok-clause-put
 returns-in-Ok-clause-put c = (
-  shows-line c.args.n c.args.start.0 c.args.duration c.args.file.now c.args.position _ (to_z-of_z {w = w64} (record { sfits = search rules })) _
+  shows-position c.args.n c.args.start.0 c.args.duration c.args.file.now c.args.position _ (to_z-of_z {w = w64} (record { sfits = search rules })) _
       (sym (ap answered c.in-Ok.is) ∙ c.measured_at.ensures.0) c.put_shown.ensures.put,
   c.measured_at.ensures.1,
 )

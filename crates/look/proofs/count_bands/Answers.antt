@@ -5,9 +5,6 @@ use Rattle.bands_model.proofs.Look.{front_less}
 use Rattle.bands_model.proofs.Count.{front-counted, count_end}
 use Rattle.look.proofs.count_bands.Goals as goal
 
-pub loop-band-init : goal.loop-band-init
-loop-band-init c = (omega arith, omega arith)
-
 pub loop-band-smaller : goal.loop-band-smaller
 loop-band-smaller c = omega (arith, front_less c.in-Some.ensures.some)
 

@@ -21,8 +21,3 @@ pub loop-i-preserved : goal.loop-i-preserved
 loop-i-preserved c =
     let i = c.loop-i in
     record { below = omega arith; long = simp length-set i.invariant.long; goes = run_more _ _ i.i c.args.count _ (omega arith) ∙ i.invariant.goes }
-
-pub returns : goal.returns
-returns c =
-    let i = c.loop-i in
-    run_end i.pixels _ i.i _ _ (omega arith) ∙ i.invariant.goes

@@ -3,8 +3,5 @@ use Rattle.table.proofs.Laws.{storing_goes, storing_ends}
 use native.Mathlib.Omega.{arith}
 use Rattle.table.proofs.bytes.Goals as goal
 
-pub loop-i-preserved : goal.loop-i-preserved
-loop-i-preserved c = storing_goes c.args.s.now c.args.out.now _ _ _ c.loop-i.invariant _ c.written-item.ensures _ c.put.ensures
-
 pub returns : goal.returns
 returns c = storing_ends _ _ _ _ _ c.loop-i.invariant (omega (arith, c.loop-i-test.false))

@@ -1,7 +1,15 @@
--- `vobsub::put4` meets its contract: four stores. Assumes nothing.
+-- `vobsub::put4` meets its contract: a part of the canvas is written over. Assumes nothing.
 use native.Mathlib.Omega.{arith}
-use Rattle.vobsub_model.proofs.Painting.{pixel_stored}
+use Prim.Native.Nat.{◌+◌, ◌-◌}
+use mathlib.Core.Path.{◌≡◌, ap, ◌∙◌}
+use lib.ListN.{length}
+use lib.Seq.{sets}
+use Rattle.outcome.proofs.Laws.{part_stored}
 use Rattle.vobsub.proofs.put4.Goals as goal
 
 pub returns : goal.returns
-returns c = pixel_stored c.args.canvas.now c.args.at c.args.p (omega arith)
+returns c =
+    let z : c.args.at + 4 - c.args.at ≡ 4 = omega arith in
+    let l : length c.args.p ≡ 4 = omega arith in
+    let e : c.copy_from_slice.new.self ≡ c.args.p = c.copy_from_slice.ensures.after in
+    rw z (part_stored c.args.at 4 c.args.canvas.now c.copy_from_slice.new.self (ap length e ∙ l) c.requires ∙ ap (sets c.args.canvas.now c.args.at) e)

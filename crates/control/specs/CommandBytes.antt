@@ -1,6 +1,6 @@
 -- The byte of each command (FORMAT 3.4). Assumes nothing: these are definitions.
 use Rattle.std.specs.Prelude.{ℕ}
-use Rattle.control_model.specs.declared.CommandKind.{CommandKind}
+use Rattle.control.specs.declared.CommandKind.{CommandKind}
 
 abbrev pub byte_of : CommandKind → ℕ
 byte_of CommandKind.ForcedStart = 0

@@ -2,8 +2,8 @@
 use native.Mathlib.Omega.{arith}
 use Prim.Native.Nat.{◌<◌}
 use mathlib.Core.Path.{◌≡◌, refl}
-use Rattle.control_model.specs.CommandBytes.{byte_of}
-use Rattle.control_model.specs.declared.CommandKind.{CommandKind}
+use Rattle.control.specs.CommandBytes.{byte_of}
+use Rattle.control.specs.declared.CommandKind.{CommandKind}
 
 -- all but a colour change are below 7
 pub plain-byte : (k : CommandKind) → (k ≡ CommandKind.Colours → ⊥) → byte_of k < 7
