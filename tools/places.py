@@ -4,7 +4,7 @@
     tools/places.py POINT [FOLDER]
 
 POINT is one of: answers, flags, numbers, handing, twins, loops, types, by-hand, conditions, together, lengths, ladders,
-goals, lines. Each prints its places, one a line, and their number last. FOLDER is the top of a checkout, this one by default.
+goals, lines. Each prints its places, one a line, and their number last; the last two by crate. FOLDER is the top of a checkout, this one by default.
 """
 
 import collections
@@ -278,7 +278,8 @@ def main(arguments):
     root = arguments[1] if len(arguments) == 2 else os.path.dirname(os.path.dirname(os.path.abspath(__file__)))
     places = list(POINTS[arguments[0]](root))
     print("\n".join(places))
-    print(len(places))
+    if arguments[0] not in ("goals", "lines"):
+        print(len(places))
     return 0
 
 

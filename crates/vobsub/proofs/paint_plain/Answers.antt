@@ -5,9 +5,6 @@ use lib.ListN.{get_or}
 use Rattle.vobsub_model.proofs.Painting.{painting-starts, painting_goes, painting_ends, table-turn, table_is, table_done}
 use Rattle.vobsub.proofs.paint_plain.Goals as goal
 
-pub loop-i-init : goal.loop-i-init
-loop-i-init c = painting-starts _ _ _ _
-
 pub loop-i-preserved : goal.loop-i-preserved
 loop-i-preserved c =
     painting_goes _ _ _ _ c.loop-i.i _ c.loop-i.invariant c.loop-i-test.true _ (table-turn c.args.colours (4 * c.at_most_3-k.result)) (table_is c.args.colours c.loop-i.i (get_or c.args.row.now c.loop-i.i 0) _ _ c.at_most_3-k.ensures) _ c.put4.ensures

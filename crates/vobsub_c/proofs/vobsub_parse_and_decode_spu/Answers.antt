@@ -60,8 +60,3 @@ pub returns-in-Ok : goal.returns-in-Ok
 returns-in-Ok c =
     let r = c.parse_and_decode_spu in
     accepted _ _ _ _ _ _ r.ensures.0 r.ensures.1 _ (ap answered c.in-Ok.is) _ c.numbers_of.ensures
-
-pub returns-in-Err : goal.returns-in-Err
-returns-in-Err c =
-    let r = c.parse_and_decode_spu in
-    rw c.number.ensures (declined _ _ _ _ _ _ r.ensures.0 r.ensures.1 _ (ap answered c.in-Err.is))

@@ -66,7 +66,3 @@ pub returns-in-Ok : goal.returns-in-Ok
 returns-in-Ok c =
     accepted _ _ _ _ _ _ _ _ c.parse_idx.ensures.0 c.parse_idx.ensures.1 _ (ap answered c.in-Ok.is) _
     c.idx_numbers_of.ensures
-
-pub returns-in-Err : goal.returns-in-Err
-returns-in-Err c =
-    rw c.number.ensures (declined _ _ _ _ _ _ _ _ c.parse_idx.ensures.0 c.parse_idx.ensures.1 _ (ap answered c.in-Err.is))

@@ -42,9 +42,6 @@ module _ (s : List ℕ) where
           let p : length s - length b ≡ c = omega arith in
           record { shorter = omega arith; found = record { refusal = sym (ap refusal_of v); returned = body_returned s 0 (sym (ap refusal_of v)); place = p ∙ sym (ap (λ (o : Res ℕ). or_before (λ b. b) o n) v) } }
 
-pub overflow_sub-body : goal.overflow_sub-body
-overflow_sub-body c = omega (arith, (there _ 0 _ (sym (ap option_copied c.in-Some.is) ∙ c.parse_pes_body.ensures)).shorter)
-
 pub returns-in-Some : goal.returns-in-Some
 returns-in-Some c = (there _ _ _ (sym (ap option_copied c.in-Some.is) ∙ c.parse_pes_body.ensures)).found
 

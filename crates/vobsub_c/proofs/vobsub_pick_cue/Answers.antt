@@ -73,7 +73,3 @@ pub returns-in-Ok : goal.returns-in-Ok
 returns-in-Ok c =
     accepted _ _ _ _ _ _ c.pick_cue.ensures.0 c.pick_cue.ensures.1 _ (ap answered c.in-Ok.is) _
     (to_z-of_z {w = w64} (record { sfits = search rules })) _ c.cue_numbers_of.ensures
-
-pub returns-in-Err : goal.returns-in-Err
-returns-in-Err c =
-    rw c.number.ensures (declined _ _ _ _ _ _ c.pick_cue.ensures.0 c.pick_cue.ensures.1 _ (ap answered c.in-Err.is))

@@ -3,9 +3,6 @@ use native.Mathlib.Omega.{arith}
 use Rattle.vobsub_model.proofs.Painting.{line-room, lines_start, lines-go, lines_end}
 use Rattle.vobsub.proofs.Style.paint.Goals as goal
 
-pub loop-r-init : goal.loop-r-init
-loop-r-init c = lines_start _ _ _ _ _ _ _ _
-
 pub loop-r-preserved : goal.loop-r-preserved
 loop-r-preserved c =
     let m = line-room c.args.map.width c.args.map.height c.loop-r.r c.loop-r-test.true in
