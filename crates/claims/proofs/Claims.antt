@@ -116,7 +116,8 @@ an_unclipped_run = unclipped-whole
 pub show_and_hide : (text file : List ℕ) (q : Wanted) (b : Lent) (r : Res Shown) (b' : Lent)
     → CuePainted text file q b r b' → (s : Shown) → r ≡ ok s → (x : Reading) → IsReading text file q x
     → (s.started ≡ given (told_by x).starts) × (s.stopped ≡ given (told_by x).stops)
-    × (s.show ≡ micros_in (show_of x)) × (s.hide ≡ micros_in (hide_of x))
+    × (given s.show ≡ given (show_of x)) × (s.show ≡ micros_in (show_of x))
+    × (given s.hide ≡ given (hide_of x)) × (s.hide ≡ micros_in (hide_of x))
 show_and_hide text file q b r b' d s p x h = VobsubProof.shown_times_lem text file q b r b' d s p x h
 
 pub a_show_time : (x : Reading) (d : ℕ) → (told_by x).starts ≡ some d

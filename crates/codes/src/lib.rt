@@ -8,7 +8,7 @@ ghost use Rattle.rle_model.specs.Codes.{code_at};
 ghost use Rattle.rle_model.specs.CodeAnswers.{code_answer, code_end};
 
 use nibbles::NibbleReader;
-use outcome::Refusal;
+use outcome::{Refusal, lesser};
 use rle_model::CodeRead;
 
 // The code at the reader's place: the first number of nibbles that makes a number large enough for it, four at most (FORMAT 5.2);
@@ -50,7 +50,7 @@ pub fn read_code(reader: &mut NibbleReader, left: usize) -> Result<CodeRead, Ref
 pub fn painted(left: usize, size: usize, value: usize) -> usize
     ensures { (p : ℕ) → result ≡ paints left (code p size value) }
 {
-    let run = left.min(value / 4);
+    let run = lesser(left, value / 4);
     if size == 4 {
         if value < 256 {
             return left;

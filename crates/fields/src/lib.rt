@@ -8,9 +8,10 @@ ghost use Rattle.rle_model.specs.Field.{paint_field};
 ghost use Rattle.rle_model.specs.Answers.{AtMost, field_answer, plus_field, measured, part_rows, Ready, Counted};
 ghost use Rattle.rle_model.specs.Fields.{fields_at, is_there, from_of, to_of, FieldsDecoded, both_answer, blank_rows, BothFit, BothDecoded};
 
-use outcome::Refusal;
+use outcome::{Refusal, lesser};
 use rle::{Rows, decode_sized, fill_measured, fill_run, measure_field, measure_kept, plus_counts};
-use rle_model::{Counts, Span};
+use rle_model::Counts;
+pub use rle_model::Span;
 
 // Two fields of one width: `rows` rows of the upper one, and `more` of the lower one. That both fit a map is asked beside it, as of `Rows`.
 #[derive(Clone, Copy)]
@@ -27,7 +28,7 @@ fn field_bytes(unit: &[u8], from: usize, to: usize) -> &[u8]
     requires { to ≤ length unit.now }
     ensures { result.now ≡ slice from to unit.now }
 {
-    let start = from.min(to);
+    let start = lesser(from, to);
     &unit[start..to]
 }
 

@@ -4,7 +4,7 @@
 ghost use Rattle.std.specs.Prelude.{◌≡◌, ℕ, ◌≤◌, ◌<◌, ◌+◌, ◌*◌, ◌^◌, pos, neg_ℤ, length, drop};
 ghost use Rattle.std.proofs.lemmas.List.Edits.{sets};
 ghost use Rattle.grammar.specs.Parts;
-ghost use Rattle.grammar.specs.IndexParts.{colon, letter_x, parting};
+ghost use Rattle.grammar.specs.IndexParts.{colon, letter_x};
 ghost use Rattle.grammar.specs.Index.{timestamp_word, filepos_word};
 ghost use Rattle.idx_numbers_model.specs.Parts as NumberParts;
 ghost use Rattle.idx_numbers_model.specs.Parts.{part, split};
@@ -14,9 +14,9 @@ ghost use Rattle.idx_lines_model.specs.Answers.{line_says, lean, Noted, FoundIn,
 
 use idx_lines_model::{Counted, Directive, Field, Found};
 use idx_numbers::{
-    digits, eight_at, is_blank, leading, parse_hex, parse_position, starts, time_of, trim,
-    unsigned, until,
+    digits, eight_at, leading, parse_hex, parse_position, starts, time_of, trim, unsigned, until,
 };
+use idx_numbers_model::Kind;
 use outcome::Refusal;
 
 // What follows `size:`.
@@ -44,13 +44,6 @@ fn store(palette: &mut [u8; 48], k: usize, v: u64)
     palette[3 * k..3 * k + 3].copy_from_slice(&[red, green, blue]);
 }
 
-// Whether a byte of a palette line stands between tokens.
-fn is_parting(b: &u8) -> bool
-    ensures { result ≡ parting b.now }
-{
-    is_blank(*b) || *b == b','
-}
-
 // What follows `palette:`. The first 16 tokens are read; where one of them is bad the palette is as found.
 fn parse_palette(s: &[u8], palette: &mut [u8; 48]) -> Result<Option<Directive>, Refusal>
     ensures { TokensRead s.now palette.old result palette.new }
@@ -58,12 +51,12 @@ fn parse_palette(s: &[u8], palette: &mut [u8; 48]) -> Result<Option<Directive>, 
     let mut colours = *palette;
     let mut i = 0;
     for k in 0..16 {
-        let g = i + leading(&s[i..], is_parting);
+        let g = i + leading(&s[i..], Kind::Parting);
         if g >= s.len() {
             *palette = colours;
             return Ok(Some(Directive::Palette(k > 0)));
         }
-        let e = g + leading(&s[g..], |b| !is_parting(b));
+        let e = g + leading(&s[g..], Kind::Token);
         let colour = parse_hex(&s[g..e], 268435455).ok_or(Refusal::BadToken)?;
         store(&mut colours, k, colour);
         i = e;

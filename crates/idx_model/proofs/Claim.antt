@@ -2,7 +2,7 @@
 use Prim.Native.Nat.{ℕ, ◌≤◌, ◌<◌, min}
 use mathlib.Core.Path.{◌≡◌, refl, sym, ap, ◌∙◌, subst}
 use mathlib.Core.Logic.{⊎_elim}
-use Rattle.std.specs.Prelude.{Some as some, None as none}
+use Rattle.std.specs.Prelude.{Option, Some as some, None as none}
 use mathlib.Core.List.{List}
 use lib.ListN.{length}
 use lib.Seq.{sets}
@@ -11,6 +11,7 @@ use Rattle.outcome.specs.Outcome.{Res, ok, refuse, IsOk, listed_by, no_cue}
 use Rattle.outcome.proofs.Laws.{le_or_lt, ok-injective}
 use Rattle.grammar.specs.Index.{ListedText}
 use Rattle.grammar.specs.IndexCues.{Cue, cues_of, cue_at, palette_of, has_palette, display_size, duration_of}
+use Rattle.grammar.specs.Record.{given}
 use Rattle.idx_model.specs.Text.{idx_of}
 use Rattle.idx_model.specs.Answers.{starts_of, positions_of, idx_with, idx_answer, IdxRead, pick_of, duration_in, cue_answer}
 use Rattle.clock_model.specs.Answers.{micros}
@@ -82,6 +83,10 @@ module _ (text : List ℕ) (starts : List ℤ) (positions : List ℕ) (r : Res I
   }
 
 -- ---- one cue
+pub lasting : (o : Option ℕ) → given (duration_in o) ≡ given o
+lasting none = refl
+lasting (some d) = refl
+
 module _ (text : List ℕ) (n : ℕ) (r : Res CueAnswer) (h : r ≡ cue_answer (pick_of (idx_of text) n)) where
   found_cue : ListedText → Cue → CueAnswer
   found_cue t c =
@@ -104,7 +109,14 @@ module _ (text : List ℕ) (n : ℕ) (r : Res CueAnswer) (h : r ≡ cue_answer (
     subst IsOk (sym (picks t e c f)) tt,
     λ a g.
         subst (GivesCue t n c) (ok-injective (sym (picks t e c f) ∙ g))
-        (record { start = refl; position = refl; duration = refl; coloured = refl; palette = refl }),
+        (record {
+          start = refl;
+          position = refl;
+          lasts = lasting (duration_of (cues_of t) n);
+          duration = refl;
+          coloured = refl;
+          palette = refl;
+        }),
   )
 
   pub has : (x : Res ListedText) → idx_of text ≡ x → IsOk r

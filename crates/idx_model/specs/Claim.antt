@@ -4,6 +4,7 @@ use Rattle.std.specs.Prelude.{Some as some}
 use Rattle.std.proofs.lemmas.List.Edits.{sets}
 use Rattle.grammar.specs.Index.{ListedText, IsText}
 use Rattle.grammar.specs.IndexCues.{Cue, cues_of, cue_at, palette_of, has_palette, display_size, duration_of}
+use Rattle.grammar.specs.Record.{given}
 use Rattle.outcome.specs.Outcome.{Res, ok, IsOk}
 use Rattle.idx_model.specs.Answers.{duration_in}
 use Rattle.idx_model.specs.declared.IdxAnswer.{IdxAnswer}
@@ -26,10 +27,12 @@ pub record IdxSays (text : List ℕ) (starts : List ℤ) (positions : List ℕ) 
   pub same : (t : ListedText) → IsText text t → (a : IdxAnswer) → r ≡ ok a → Gives t starts positions a starts' positions'
   pub as_found : (IsOk r → ⊥) → (starts' ≡ starts) × (positions' ≡ positions)
 
--- the answer is what the listed text gives for cue n, which is c
+-- the answer is what the listed text gives for cue n, which is c; whether it has a duration stands in the grammar's own word, beside the
+-- equation's
 pub record GivesCue (t : ListedText) (n : ℕ) (c : Cue) (r : CueAnswer) : Type 0 where
   pub start : r.start.0 ≡ c.start
   pub position : r.position ≡ c.position
+  pub lasts : given r.duration ≡ given (duration_of (cues_of t) n)
   pub duration : r.duration ≡ duration_in (duration_of (cues_of t) n)
   pub coloured : r.has_palette ≡ has_palette t
   pub palette : r.palette ≡ palette_of t

@@ -12,25 +12,48 @@ ghost use Rattle.idx_numbers_model.specs.Numbers as DigitNumbers;
 ghost use Rattle.idx_numbers_model.specs.Numbers.{bare, hex, position_of};
 ghost use Rattle.clock_model.specs.Sums.{checked};
 ghost use Rattle.idx_numbers_model.specs.Times.{micros_of};
-ghost use Rattle.idx_numbers_model.specs.Answers.{fitting, Bound, run_of, lowest};
+ghost use Rattle.idx_numbers_model.specs.Answers.{test, fitting, Bound, run_of, lowest};
 
 use clock::plus;
-use idx_numbers_model::Digits;
+use idx_numbers_model::{Digits, Kind};
 
+// By ranges, so that a blank takes one branch: the pattern `9..=13 | 32` takes two, and on blanks of both kinds twice the time.
 // Ruled out: a byte 08 or 0E taken for a blank.
 pub fn is_blank(b: u8) -> bool
     ensures { result ≡ IndexParts.blank b }
 {
-    matches!(b, 9..=13 | 32)
+    match b {
+        0..9 => false,
+        9..=13 => true,
+        _ => b == b' ',
+    }
 }
 
 // How many leading bytes pass.
 // Ruled out: bytes that pass after one that does not; the first other byte counted.
-pub fn leading<F: Fn(&u8) -> bool>(s: &[u8], passes: F) -> usize
+pub fn leading_where<F: Fn(&u8) -> bool>(s: &[u8], passes: F) -> usize
     requires { F.IsAlwaysCallable passes }
     ensures { (p : ℕ → Bool) → ((b : ℕ) (r : Bool) → FnReturnsAt F.Fn passes b r → r ≡ p b) → result ≡ length (front p s.now) }
 {
     s.iter().position(|b| !passes(b)).unwrap_or(s.len())
+}
+
+// Whether a byte of a palette line stands between tokens.
+fn is_parting(b: &u8) -> bool
+    ensures { result ≡ IndexParts.parting b.now }
+{
+    is_blank(*b) || *b == b','
+}
+
+// How many leading bytes are of that kind.
+// Ruled out: bytes of the kind after one that is not; the other kind counted.
+pub fn leading(s: &[u8], k: Kind) -> usize
+    ensures { result ≡ length (front (test k) s.now) }
+{
+    match k {
+        Kind::Parting => leading_where(s, is_parting),
+        Kind::Token => leading_where(s, |b| !is_parting(b)),
+    }
 }
 
 // How many leading bytes are blanks.
@@ -38,7 +61,7 @@ pub fn leading<F: Fn(&u8) -> bool>(s: &[u8], passes: F) -> usize
 pub fn blanks(s: &[u8]) -> usize
     ensures { result ≡ length (front IndexParts.blank s.now) }
 {
-    leading(s, |b| is_blank(*b))
+    leading_where(s, |b| is_blank(*b))
 }
 
 // How many bytes are left without the trailing blanks.
@@ -81,7 +104,7 @@ fn eight_have(s: &[u8], i: usize, sep: u8) -> bool
 fn near(s: &[u8], sep: u8) -> usize
     ensures { result ≡ length (front (IndexParts.unlike sep) s.now) }
 {
-    leading(s, |b| *b != sep)
+    leading_where(s, |b| *b != sep)
 }
 
 // How many bytes stand before the first sep. Blocks of eight are passed over, each tested at once: the edit nine_at_once holds the step.
@@ -123,6 +146,13 @@ pub fn eight_at(s: &[u8], i: usize) -> u64
 pub fn starts(s: &[u8], w: &[u8]) -> bool
     ensures { result ≡ Parts.starts w.now s.now }
 {
+    // the first byte tells most texts apart, where all of them take longer
+    if let [wanted, ..] = w
+        && let [first, ..] = s
+        && first != wanted
+    {
+        return false;
+    }
     s.starts_with(w)
 }
 

@@ -160,3 +160,10 @@ starts-is (a ∷ w) (b ∷ s) = rw (eqb-turned a b) (go (starts-is w s) (eqb b a
     go : starts_with eqb s w ≡ starts w s → (t : Bool) → t && starts_with eqb s w ≡ found (cond t (strip w s) none)
     go ih true = ih
     go ih false = refl
+
+-- another first byte, where there is one to look for
+pub starts-unlike : (w s : List ℕ) → 0 < length w → (get_or s 0 0 ≡ get_or w 0 0 → ⊥) → false ≡ starts w s
+unfolding strip
+starts-unlike [] s l d = absurd (omega arith)
+starts-unlike (a ∷ w) [] l d = refl
+starts-unlike (a ∷ w) (b ∷ s) l d = rw (ne_eqb b a d)

@@ -1,9 +1,17 @@
 -- What each case of the code's types stands for. Assumes nothing: these are definitions.
 use Rattle.std.specs.Prelude.{ℕ, ◌+◌, ◌*◌, ◌^◌, ◌<◌, Bool, cond, ◌&&◌, ◌||◌, List, [], ◌∷◌, leb, ltb, eqb, length}
 use Rattle.std.specs.Prelude.{Option, Some as some, None as none}
+use Rattle.grammar.specs.IndexParts.{parting, token_byte}
 use Rattle.grammar.specs.IndexNumbers.{is_digit, numeral}
 use Rattle.idx_numbers_model.specs.Parts.{front}
 use Rattle.idx_numbers_model.specs.declared.Digits.{Digits}
+use Rattle.idx_numbers_model.specs.declared.Kind.{Kind}
+use Rattle.idx_numbers_model.specs.declared.Kind.TheVariants.{Parting, Token}
+
+-- the bytes of a kind
+abbrev pub test : Kind → ℕ → Bool
+test Parting = parting
+test Token = token_byte
 
 -- a bound that 64 bits hold, by its quotient and its remainder by the base
 pub record Bound (base most last : ℕ) : Type 0 where

@@ -17,7 +17,7 @@ ghost use Rattle.listing_model.specs.Answers.{Put, Written, record_shown, positi
 use clock_model::Micros;
 use control_model::Spu;
 use listing_model::Head;
-use outcome::Refusal;
+use outcome::{Refusal, lesser};
 
 // The longest file that is read.
 const MOST: usize = 65536;
@@ -227,7 +227,7 @@ fn measured_at(
         × (scratch.new ≡ sets scratch.old 0 (unit_stored (form_at (stream_id list_stream) file.now position))) }
 {
     let unit = ps::extract_spu(file, position as usize, STREAM, scratch)?;
-    let bytes = ps::unit_part(file, &scratch[..], position as usize, Ok(unit));
+    let bytes = ps::unit_part(file, &scratch[..], position as usize, Some(unit));
     measured_in_time(bytes, start)
 }
 
@@ -271,7 +271,7 @@ pub fn cue_line(
         × (scratch.new ≡ sets scratch.old 0 (unit_stored (form_for (table_of starts.now positions.now cues) file.now n)))
         × Undisturbed (table_of starts.now positions.now cues) file.now n line.old scratch.old result line.new scratch.new }
 {
-    let size = cues.min(starts.len()).min(positions.len());
+    let size = lesser(cues, lesser(starts.len(), positions.len()));
     let mut written = Line::new(line);
     if size <= n {
         written.put_refused(n, Refusal::NoCue);

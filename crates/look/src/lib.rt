@@ -6,6 +6,7 @@ ghost use Rattle.bands_model.specs.Look.{told, pick_entry, entries_look, band_lo
 ghost use Rattle.bands_model.specs.Count.{bands_held};
 
 use bands_model::Four;
+use outcome::lesser;
 
 // An entry that starts at the column or left of it, or what was found before it.
 fn pick_entry(
@@ -56,7 +57,7 @@ fn front_band(words: &[u16]) -> Option<StoredBand<'_>>
     let [first, last, count, entries @ ..] = words else {
         return None;
     };
-    let n = (*count as usize).min(entries.len() / 3);
+    let n = lesser(*count as usize, entries.len() / 3);
     Some(StoredBand {
         first: *first,
         last: *last,

@@ -15,9 +15,9 @@
 use clock_model::{Micros, Ticks};
 use control_model::Spu;
 use nibbles::NibbleReader;
-use outcome::Refusal;
+use outcome::{Refusal, lesser};
 use ps_model::UnitAt;
-use run_rows::Row;
+use run_rows::{Onward, Row, write_unit};
 use std::io;
 
 const FOUND: u8 = 238;
@@ -62,7 +62,7 @@ fn nibble(rt: &impl Print, row: &Row<'_>) -> io::Result<()> {
 
 fn measured(rt: &impl Print, row: &Row<'_>) -> io::Result<()> {
     match spu::measure_spu(row.bytes) {
-        Ok(s) => run_rows::write_unit(rt, &vobsub_numbers::numbers_of(s)),
+        Ok(s) => write_unit(&Onward(rt), &vobsub_numbers::numbers_of(s)),
         Err(refusal) => write_refused(rt, refusal),
     }
 }
@@ -185,7 +185,7 @@ fn summed(rt: &impl Print, row: &Row<'_>, file: &[u8], scratch: &mut [u8]) -> io
         Ok(UnitAt::Joined(n)) => print!(rt; ": joined {n},")?,
         Err(refusal) => write_refused(rt, refusal)?,
     }
-    let sum = total(ps::unit_part(file, &scratch[..], position, answer));
+    let sum = total(ps::unit_part(file, &scratch[..], position, answer.ok()));
     let scratch_sum = total(scratch);
     print!(rt; " sum {sum}; scratch sum {scratch_sum}")
 }
@@ -250,7 +250,9 @@ fn write_built(
     };
     print!(rt; ": wrote {n}")?;
     if bytes {
-        run_rows::write_bytes(rt, unit)?;
+        for b in unit {
+            print!(rt; " {b:02X}")?;
+        }
     }
     let left = found(rest);
     print!(rt; "; found {left}")?;
@@ -306,6 +308,7 @@ fn all(
     let differ = (0..count)
         .filter(|k| !is_numbered_written(width, height, indices, *k))
         .count();
+    let differ = lesser(differ, 1000000000);
     print!(rt; ": {count} pictures, {differ} not read back")
 }
 
@@ -361,6 +364,32 @@ fn answer(rt: &impl Print, row: &Row<'_>) -> io::Result<()> {
     }
 }
 
+// A line without a bar names no function.
+fn write_row(rt: &impl Print, line: &[u8]) -> io::Result<()> {
+    let mut room = [0; 8192];
+    let n = table::stored(line, 3, &mut room);
+    rt.write_all(table::part(line, b'|', 0))?;
+    rt.write_all(b"|")?;
+    rt.write_all(table::part(line, b'|', 1))?;
+    if let Some(bytes) = room.get(..n)
+        && line.contains(&b'|')
+    {
+        answer(rt, &Row { line, bytes })?;
+    }
+    rt.write_all(b"\n")
+}
+
+// The rows up to an empty line or the end of input.
 fn main(rt: HostRuntime) {
-    run_rows::each_row(&rt, |row| answer(&rt, row));
+    let out = Onward(&rt);
+    let mut input = rt.reader();
+    let mut text = [0; 65536];
+    // every loop of a proved function ends
+    for _ in 0..usize::MAX {
+        let n = run_rows::next_line(&mut input, &mut text);
+        if n == 0 {
+            return;
+        }
+        let _ = write_row(&out, &text[..n]);
+    }
 }

@@ -8,17 +8,24 @@ ghost use Rattle.std.specs.List.{prefix_len};
 ghost use Rattle.outcome.specs.Outcome.{ok, answered, check, no_unit};
 ghost use Rattle.grammar.specs.Bytes.{word};
 ghost use Rattle.grammar.specs.Packets.{buffer_size, stamp_size, is_id};
-ghost use Rattle.ps_model.specs.OnePacket.{header1_at, body_at, packet, pack_at, private_at, packet_at};
+ghost use Rattle.ps_model.specs.OnePacket.{leading, header1_at, body_at, packet, pack_at, private_at, packet_at};
 ghost use Rattle.ps_model.specs.PacketAnswers.{body_given, body_answer, body_part, packet_given, whole_given};
 
 use outcome::{Refusal, word_of};
 use ps_model::PacketAt;
 
-// How many of the bytes are stuffing, up to the first that is not.
-fn stuffing(front: &[u8]) -> usize
+// How many bytes FF stand in front.
+fn leading_ff(front: &[u8]) -> usize
     ensures { result ≡ prefix_len (λ x. eqb x 0xFF) front.now }
 {
     front.iter().take_while(|&&byte| byte == 0xFF).count()
+}
+
+// How many bytes of stuffing stand in front, of which no more than 16 are skipped.
+fn stuffing(pes: &[u8]) -> usize
+    ensures { result ≡ leading 16 pes.now 0 }
+{
+    leading_ff(&pes[..pes.len().min(16)])
 }
 
 // The bytes of a buffer size that starts with b.
@@ -74,9 +81,7 @@ fn body_start(pes: &[u8]) -> Result<usize, Refusal>
         let size = pes.get(2).ok_or(Refusal::NoUnit)?;
         return after(pes, 3, *size as usize);
     }
-    // no more than 16 of them
-    let n = stuffing(&pes[..pes.len().min(16)]);
-    older_body(pes, n)
+    older_body(pes, stuffing(pes))
 }
 
 // The body of a PES, as the rest of it.

@@ -1,19 +1,19 @@
 // The unit at a cue's position, bare or joined from the packets of a program stream (docs/FORMAT.md, section 2).
 #![tactic(auto)]
 
-ghost use Rattle.std.specs.Prelude.{◌≡◌, cond, List, [], ◌≤◌, ◌<◌, ◌+◌, ◌-◌, ltb, length, take, drop};
+ghost use Rattle.std.specs.Prelude.{◌≡◌, ℕ, cond, List, [], ◌≤◌, ◌<◌, ◌+◌, ◌-◌, ltb, length, take, drop};
 ghost use Rattle.std.specs.Prelude.{Some as some, None as none};
 ghost use Rattle.std.proofs.lemmas.List.Edits.{sets};
 ghost use Rattle.std.proofs.Math.Seq.{slice};
 ghost use Rattle.ps_model.specs.Claim.{Says, Undisturbed};
-ghost use Rattle.outcome.specs.Outcome.{ok, answered};
+ghost use Rattle.outcome.specs.Outcome.{ok, answered, need};
 ghost use Rattle.grammar.specs.Bytes.{byte, word};
 ghost use Rattle.grammar.specs.Packets.{Packet, packets, unit_of, is_id};
 ghost use Rattle.ps_model.specs.Packets.{packets_at, is_bare};
 ghost use Rattle.ps_model.specs.Unit.{joined_at};
 ghost use Rattle.ps_model.specs.Answers.{joined_given, unit_given, unit_stored, unit_part, Extracted};
 
-use outcome::{Refusal, word_of};
+use outcome::{Refusal, lesser, word_of};
 use packets::read_packet;
 use ps_model::{PacketAt, UnitAt};
 
@@ -65,12 +65,14 @@ fn measure_packets(file: &[u8], from: usize, id: u8) -> Result<usize, Refusal>
     }
 }
 
-// The m bytes of the file from a on, into scratch from `to` on.
+// The m bytes of the file from a on, into scratch from `to` on. By place: `copy_from_slice` has the archive ask for `memmove` from outside.
 fn copy(file: &[u8], a: usize, m: usize, scratch: &mut [u8], to: usize)
     requires { (a + m ≤ length file.now) × (to + m ≤ length scratch.old) }
     ensures { scratch.new ≡ sets scratch.old to (take m (drop a file.now)) }
 {
-    scratch[to..to + m].copy_from_slice(&file[a..a + m]);
+    for i in 0..m {
+        scratch[to + i] = file[a + i];
+    }
 }
 
 // The unit of t bytes that the packets give, into the front of scratch.
@@ -90,7 +92,7 @@ fn join_packets(file: &[u8], from: usize, id: u8, t: usize, scratch: &mut [u8])
                 at = end;
             }
             PacketAt::Keeps(a, end) => {
-                let m = (end - a).min(t - have);
+                let m = lesser(end - a, t - have);
                 copy(file, a, m, scratch, have);
                 have = have + m;
                 at = end;
@@ -99,7 +101,9 @@ fn join_packets(file: &[u8], from: usize, id: u8, t: usize, scratch: &mut [u8])
     }
 }
 
-// The unit that packets with that id give, in the front of scratch, which is as found on a refusal.
+// The unit that packets with that id give, in the front of scratch, which is as found on a refusal. Apart, so that a bare unit and what is refused
+// before do not wait for the registers of its walk.
+#[inline(never)]
 fn extract_spu_from_ps(
     file: &[u8],
     from: usize,
@@ -168,19 +172,20 @@ fn part<'a>(s: &'a [u8], a: usize, n: usize) -> &'a [u8]
     &s[start..end]
 }
 
-// The bytes of the unit that `extract_spu` found, from whichever of file and scratch holds them; none after a refusal.
+// The bytes of the unit that `extract_spu` found, from whichever of file and scratch holds them; none where there is no unit, whatever the
+// refusal was.
 // Ruled out: a part of scratch for a bare unit; a trap on an answer that these slices did not give.
 pub fn unit_part<'a>(
     file: &'a [u8],
     scratch: &'a [u8],
     position: usize,
-    unit: Result<UnitAt, Refusal>,
+    unit: Option<UnitAt>,
 ) -> &'a [u8]
-    ensures { result.now ≡ unit_part file.now scratch.now position (answered unit) }
+    ensures { (k : ℕ) → result.now ≡ unit_part file.now scratch.now position (need k unit) }
 {
     match unit {
-        Ok(UnitAt::Bare(n)) => part(file, position, n),
-        Ok(UnitAt::Joined(n)) => part(scratch, 0, n),
-        Err(_) => &file[0..0],
+        Some(UnitAt::Bare(n)) => part(file, position, n),
+        Some(UnitAt::Joined(n)) => part(scratch, 0, n),
+        None => &file[0..0],
     }
 }

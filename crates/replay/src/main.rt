@@ -1,10 +1,10 @@
 // Replays the fixed list of the oracle's answers (standard input; oracle/src/bin/list.rs makes it and says how it is laid out) through the
 // functions of `vobsub_c`, and writes a line for each class: how many rows there are, and how many are answered otherwise. A read that fails is
-// the end of input; what a write that fails leaves unwritten stays so.
+// the end of input. The pieces of a line are written one by one, and what a write that fails leaves unwritten stays so.
 #![tactic(auto)]
 
 use outcome::word_of;
-use std::io::{self, Read};
+use std::io::Read;
 
 // What lent memory holds before a call.
 const BYTE: u8 = 0xA5;
@@ -293,15 +293,20 @@ fn next_row(input: &mut impl Read) -> bool {
 }
 
 // As many rows as the next two bytes of the list say.
-fn replay_class(rt: &impl Print, input: &mut impl Read, name: &str) -> io::Result<()> {
+fn replay_class(rt: &impl Print, input: &mut impl Read, name: &str) {
     let mut head = [0; 2];
     let what = match input.read_exact(&mut head) {
-        Ok(()) => "replayed",
-        Err(_) => "no list,",
+        Ok(()) => ": replayed ",
+        Err(_) => ": no list, ",
     };
     let count = word_of(head[0], head[1]);
     let differ = (0..count).filter(|_| !next_row(input)).count();
-    println!(rt; "{name}: {what} {count}, {differ} differ")
+    let _ = rt.print(name);
+    let _ = rt.print(what);
+    let _ = rt.print(count);
+    let _ = rt.print(", ");
+    let _ = rt.print(differ);
+    let _ = rt.print(" differ\n");
 }
 
 fn main(rt: HostRuntime) {
@@ -314,6 +319,6 @@ fn main(rt: HostRuntime) {
     for name in [
         "pes", "packets", "bands", "control", "fields", "units", "written", "idx", "cue", "canvas",
     ] {
-        let _ = replay_class(&rt, &mut input, name);
+        replay_class(&rt, &mut input, name);
     }
 }

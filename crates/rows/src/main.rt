@@ -8,7 +8,7 @@
 // the others in runs.
 #![tactic(auto)]
 
-use run_rows::Row;
+use run_rows::{Onward, Row, write_unit};
 use std::fmt::Display;
 use std::io;
 
@@ -105,7 +105,7 @@ fn unit(rt: &impl Print, row: &Row<'_>) -> io::Result<()> {
     let mut words = [u16::FOUND; 1536];
     let refusal = vobsub_c::vobsub_parse_and_decode_spu(row.bytes, map, &mut words, &mut numbers);
     if is_answered(rt, refusal)? {
-        run_rows::write_unit(rt, &numbers)?;
+        write_unit(&Onward(rt), &numbers)?;
     }
     print!(rt; "; map")?;
     write_runs(rt, map)?;
@@ -117,7 +117,10 @@ fn write_part(rt: &impl Print, s: &[u8], from: usize, length: usize) -> io::Resu
     let Some(rest) = s.get(from..) else {
         return Ok(());
     };
-    run_rows::write_bytes(rt, &rest[..length.min(rest.len())])
+    for b in &rest[..length.min(rest.len())] {
+        print!(rt; " {b:02X}")?;
+    }
+    Ok(())
 }
 
 fn packets(rt: &impl Print, row: &Row<'_>) -> io::Result<()> {
@@ -343,6 +346,32 @@ fn answer(rt: &impl Print, row: &Row<'_>) -> io::Result<()> {
     }
 }
 
+// A line without a bar names no function.
+fn write_row(rt: &impl Print, line: &[u8]) -> io::Result<()> {
+    let mut room = [0; 8192];
+    let n = table::stored(line, 3, &mut room);
+    rt.write_all(table::part(line, b'|', 0))?;
+    rt.write_all(b"|")?;
+    rt.write_all(table::part(line, b'|', 1))?;
+    if let Some(bytes) = room.get(..n)
+        && line.contains(&b'|')
+    {
+        answer(rt, &Row { line, bytes })?;
+    }
+    rt.write_all(b"\n")
+}
+
+// The rows up to an empty line or the end of input.
 fn main(rt: HostRuntime) {
-    run_rows::each_row(&rt, |row| answer(&rt, row));
+    let out = Onward(&rt);
+    let mut input = rt.reader();
+    let mut text = [0; 65536];
+    // every loop of a proved function ends
+    for _ in 0..usize::MAX {
+        let n = run_rows::next_line(&mut input, &mut text);
+        if n == 0 {
+            return;
+        }
+        let _ = write_row(&out, &text[..n]);
+    }
 }

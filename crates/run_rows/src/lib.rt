@@ -1,9 +1,11 @@
-// What the programs of rows share: the loop over the rows of standard input, and how bytes and a unit's numbers are written.
+// What the programs of rows share: a row and its line, how a unit's numbers are written, and writing on where a write fails.
 #![tactic(auto)]
 
-ghost use Rattle.std.specs.Prelude.{◌≡◌};
+ghost use Rattle.std.specs.Prelude.{◌≡◌, ◌<◌, ◌≤◌, ◌≢◌, ℕ, length, get_or, IsOk};
+ghost use Rattle.run_rows.specs.Line.{TakesLine};
 ghost use Rattle.table.specs.Table.{given_at, part_at, Stored};
 
+use std::fmt::Display;
 use std::io::{self, Read};
 
 // A row: its line, and the bytes that the fourth part of the line writes.
@@ -31,16 +33,58 @@ impl<'a> Row<'a> {
     }
 }
 
-// Writes bytes, each as a blank and two hexadecimal digits. No contract can say what is written.
-pub fn write_bytes(rt: &impl Print, bytes: &[u8]) -> io::Result<()> {
-    for b in bytes {
-        print!(rt; " {b:02X}")?;
+// Reads a line into the front of `text` up to its line end, as far as there is room, and returns how many bytes stand before that. A read
+// that fails is the end of input.
+// Ruled out: a line end in a line; a byte passed over.
+pub fn next_line<R: Read>(input: &mut R, text: &mut [u8]) -> usize
+    ensures within { result ≤ length text.new }
+    ensures plain { (k : ℕ) → k < result → get_or text.new k 0 ≢ 10 }
+    ensures taken { TakesLine (R.remaining input.old) (R.remaining input.new) text.new result }
+{
+    for n in 0..text.len() {
+        if input.read(&mut text[n..=n]).unwrap_or(0) == 0 || text[n] == b'\n' {
+            return n;
+        }
     }
-    Ok(())
+    text.len()
 }
 
-// Writes a unit's numbers, which stand in the order of include/vobsub.h. No contract can say what is written.
-pub fn write_unit(rt: &impl Print, numbers: &[usize; 17]) -> io::Result<()> {
+// Prints through another, and goes on where a write fails: what that leaves unwritten stays so.
+#[derive(Clone, Copy)]
+pub struct Onward<'a, P>(pub &'a P);
+
+impl<'a, P: Print> Print for Onward<'a, P> {
+    fn print<D: Display + Drop>(&self, value: D) -> io::Result<()>
+        ensures { IsOk result }
+    {
+        let _ = self.0.print(value);
+        Ok(())
+    }
+
+    fn println<D: Display + Drop>(&self, value: D) -> io::Result<()>
+        ensures { IsOk result }
+    {
+        let _ = self.0.println(value);
+        Ok(())
+    }
+
+    fn write_all(&self, bytes: &[u8]) -> io::Result<()>
+        ensures { IsOk result }
+    {
+        let _ = self.0.write_all(bytes);
+        Ok(())
+    }
+
+    fn write_some(&self, bytes: &[u8]) -> io::Result<usize> {
+        self.0.write_some(bytes)
+    }
+}
+
+// Writes a unit's numbers, which stand in the order of include/vobsub.h, piece by piece.
+// Ruled out: a piece left out because one before it was not written.
+pub fn write_unit<P: Print>(rt: &Onward<'_, P>, numbers: &[usize; 17]) -> io::Result<()>
+    ensures { IsOk result }
+{
     let [
         x1,
         y1,
@@ -65,54 +109,4 @@ pub fn write_unit(rt: &impl Print, numbers: &[usize; 17]) -> io::Result<()> {
     print!(rt;
         ", offsets {top} {bottom}, change {change}, band words {words}, codes {codes}, clipped {clipped}"
     )
-}
-
-// Reads up to the next line end, and returns how many bytes stand before it. A read that fails is the end of input.
-fn next_line(input: &mut impl Read, text: &mut [u8]) -> usize {
-    for n in 0..text.len() {
-        if input.read(&mut text[n..=n]).unwrap_or(0) == 0 || text[n] == b'\n' {
-            return n;
-        }
-    }
-    text.len()
-}
-
-// A line without a bar names no function.
-fn write_row<F: Fn(&Row<'_>) -> io::Result<()>>(
-    rt: &impl Print,
-    line: &[u8],
-    answer: &F,
-) -> io::Result<()>
-    requires { F.IsAlwaysCallable answer.now }
-{
-    let mut room = [0; 8192];
-    let n = table::stored(line, 3, &mut room);
-    rt.write_all(table::part(line, b'|', 0))?;
-    rt.write_all(b"|")?;
-    rt.write_all(table::part(line, b'|', 1))?;
-    if let Some(bytes) = room.get(..n)
-        && line.contains(&b'|')
-    {
-        answer(&Row { line, bytes })?;
-    }
-    rt.write_all(b"\n")
-}
-
-// Writes a line for each row of standard input, up to an empty line or the end of input: the row's function, its name, and what `answer`
-// writes. What a write that fails leaves unwritten stays so. No contract can say what is read or written.
-pub fn each_row<F: Fn(&Row<'_>) -> io::Result<()>>(rt: &(impl Input + Print), answer: F)
-    requires { F.IsAlwaysCallable answer }
-{
-    let mut text = [0; 65536];
-    let mut input = rt.reader();
-    // every loop of a proved function ends
-    for _ in 0..usize::MAX {
-        let n = next_line(&mut input, &mut text);
-        if n == 0 {
-            return;
-        }
-        if let Some(line) = text.get(..n) {
-            let _ = write_row(rt, line, &answer);
-        }
-    }
 }

@@ -21,14 +21,13 @@ ghost use Rattle.vobsub_model.specs.Claim.{Exactly, Undisturbed};
 ghost use Rattle.vobsub_model.specs.Paint.{look_is, word_look, SameLook, four_colours, table_line, map_canvas};
 ghost use Rattle.rle_model.specs.Answers.{nothing};
 
-use bands_model::Four;
 use clock_model::{Ticks, Times};
 use control_model::Spu;
 use idx_model::CueAnswer;
 use outcome::Refusal;
 use ps::TOP_STREAM;
 use ps_model::UnitAt;
-use vobsub_model::Shown;
+use vobsub_model::{Four, Request, Shown};
 
 // The nibble of `four` for colour c.
 fn nibble_of(four: u16, c: u8) -> u8
@@ -311,7 +310,7 @@ fn paint_found<'a>(
     ensures { UnitPainted (unit_part file.now scratch.now c.position (ok unit)) c pixels.old canvas.old (answered result) pixels.new canvas.new }
 {
     let position = c.position as usize;
-    let bytes = ps::unit_part(file, scratch, position, Ok(unit));
+    let bytes = ps::unit_part(file, scratch, position, Some(unit));
     paint_unit(bytes, c, pixels, canvas)
 }
 
@@ -346,7 +345,11 @@ pub fn decode_cue(
         × Exactly text.now file.now (wanted cue stream) (lent scratch.old pixels.old canvas.old) (answered result) (lent scratch.new pixels.new canvas.new)
         × Undisturbed text.now file.now (wanted cue stream) (lent scratch.old pixels.old canvas.old) (answered result) (lent scratch.new pixels.new canvas.new) }
 {
-    let c = idx::pick_cue(text, cue).map_err(|refusal| first_refusal(refusal, stream))?;
-    let unit = ps::extract_spu(file, c.position as usize, stream, scratch)?;
+    let request = Request { cue, stream };
+    let c = idx::pick_cue(text, request.cue).map_err(|refusal| first_refusal(
+        refusal,
+        request.stream,
+    ))?;
+    let unit = ps::extract_spu(file, c.position as usize, request.stream, scratch)?;
     paint_found(file, &scratch[..], unit, c, pixels, canvas)
 }

@@ -3,11 +3,12 @@
 use Prim.Native.Nat.{ℕ, ◌*◌, ◌≤◌, ◌<◌}
 use mathlib.Core.Path.{◌≡◌, refl, sym, ap, ◌∙◌, subst}
 use mathlib.Core.Logic.{◌↔◌}
-use Rattle.std.specs.Prelude.{Some as some}
+use Rattle.std.specs.Prelude.{Option, Some as some, None as none}
 use mathlib.Core.List.{List}
 use lib.ListN.{length}
 use lib.Dec.{leb}
 use lib.Seq.{sets}
+use lib.IntN.{ℤ}
 use borrow.Author.Tests.{leb-true, le-leb}
 use Rattle.outcome.specs.Outcome.{Res, ok, refuse, need, bad_stream, no_cue, short_pixels, short_canvas, long_instant}
 use Rattle.grammar.proofs.Lengths.{reading-map, reading-canvas}
@@ -24,6 +25,7 @@ use Rattle.clock_model.specs.Answers.{micros_in}
 use Rattle.clock_model.proofs.Clock.{stay_iff}
 use Rattle.control_model.specs.Few.{few_at}
 use Rattle.idx_model.specs.Text.{idx_of}
+use Rattle.idx_model.proofs.Claim.{lasting}
 use Rattle.idx_model.proofs.Grammar.{text_iff, text_unique}
 use Rattle.ps_model.specs.Unit.{unit_at}
 use Rattle.ps_model.specs.Answers.{form_stored}
@@ -62,6 +64,11 @@ canvas-complete u n k l e h j =
     let h' : width (told bs) * height (told bs) ≤ n = rw z h in
     let j' : 4 * (width (told bs) * height (told bs)) ≤ k = rw z j in
     rw (a.1, le-leb (width (told bs) * height (told bs)) n h', le-leb (4 * (width (told bs) * height (told bs))) k j') a.2
+
+-- a time is there where the grammar has it
+is_there : (o : Option ℤ) → given (micros_in o) ≡ given o
+is_there none = refl
+is_there (some z) = refl
 
 -- what is listed of the text, the cue and the unit's form
 record Founded (text file : List ℕ) (q : Wanted) (n : ℕ) (f : Found) : Type 0 where
@@ -187,12 +194,15 @@ module _ (text file : List ℕ) (q : Wanted) where
           says = shown_given (shown x);
           paints = d.answer ∙ ap canvas_answer e;
           start = refl;
+          lasts = lasting (shown x).duration;
           duration = refl;
           started = refl;
           stopped = refl;
           start_delay = refl;
           stop_delay = refl;
+          shows = is_there (shown x).show;
           show = refl;
+          hides = is_there (shown x).hide;
           hide = refl;
           x1 = refl;
           y1 = refl;
@@ -240,7 +250,8 @@ module _ (text file : List ℕ) (q : Wanted) where
     -- whether a start and a stop command stand, and both times
     pub shown_times_lem : (s : Shown) → r ≡ ok s → (x : Reading) → IsReading text file q x
         → (s.started ≡ given (told_by x).starts) × (s.stopped ≡ given (told_by x).stops)
-        × (s.show ≡ micros_in (show_of x)) × (s.hide ≡ micros_in (hide_of x))
+        × (given s.show ≡ given (show_of x)) × (s.show ≡ micros_in (show_of x))
+        × (given s.hide ≡ given (hide_of x)) × (s.hide ≡ micros_in (hide_of x))
     unfolding shown
     shown_times_lem s p x h =
         let e = claim.same x h (subst Gives (sym p) tt) in
@@ -248,6 +259,8 @@ module _ (text file : List ℕ) (q : Wanted) where
         let y : s ≡ e.says = cc z in (
           ap (λ (t : Shown). t.started) y ∙ e.started,
           ap (λ (t : Shown). t.stopped) y ∙ e.stopped,
+          ap (λ (t : Shown). given t.show) y ∙ e.shows,
           ap (λ (t : Shown). t.show) y ∙ e.show,
+          ap (λ (t : Shown). given t.hide) y ∙ e.hides,
           ap (λ (t : Shown). t.hide) y ∙ e.hide,
         )

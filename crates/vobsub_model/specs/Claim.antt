@@ -5,6 +5,7 @@ use Rattle.std.proofs.lemmas.List.Edits.{sets}
 use Rattle.grammar.specs.Index.{ListedText, IsText}
 use Rattle.grammar.specs.IndexCues.{Cue, cues_of, cue_at}
 use Rattle.grammar.specs.Packets.{Packet, unit_of, scratch_for}
+use Rattle.grammar.specs.Record.{given}
 use Rattle.grammar.specs.Streams.{Walk, Alike}
 use Rattle.grammar.specs.Reading.{Wanted, wanted_id, Reading, IsReading, shown, map_of, canvas_of, LongEnough}
 use Rattle.outcome.specs.Outcome.{Res, ok, IsOk}
@@ -22,17 +23,21 @@ Gives r = IsOk r
 abbrev pub Room : Reading → Lent → Type 0
 Room x b = LongEnough x (length b.scratch) (length b.pixels) (length b.canvas)
 
--- answer and buffers are what the reading gives, a byte of the map and four of the canvas for each pixel; past that each buffer is as found
+-- answer and buffers are what the reading gives, a byte of the map and four of the canvas for each pixel; past that each buffer is as found.
+-- Whether there is a duration, a show and a hide time stands in the grammar's own word, beside the equation's
 pub record Equal (x : Reading) (b : Lent) (r : Res Shown) (b' : Lent) : Type 0 where
   pub says : Shown
   pub paints : r ≡ ok says
   pub start : says.start.0 ≡ (shown x).start
+  pub lasts : given says.duration ≡ given (shown x).duration
   pub duration : says.duration ≡ duration_in (shown x).duration
   pub started : says.started ≡ (shown x).started
   pub stopped : says.stopped ≡ (shown x).stopped
   pub start_delay : says.start_delay.0 ≡ (shown x).start_delay
   pub stop_delay : says.stop_delay.0 ≡ (shown x).stop_delay
+  pub shows : given says.show ≡ given (shown x).show
   pub show : says.show ≡ micros_in (shown x).show
+  pub hides : given says.hide ≡ given (shown x).hide
   pub hide : says.hide ≡ micros_in (shown x).hide
   pub x1 : says.x1 ≡ (shown x).x1
   pub y1 : says.y1 ≡ (shown x).y1

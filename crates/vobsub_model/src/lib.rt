@@ -1,7 +1,15 @@
 // The one call without its functions: what it answers, its definitions and those of painting, their laws and the claim on whole files.
 #![tactic(auto)]
 
+pub use bands_model::Four;
 use clock_model::{Micros, Ticks};
+
+// What a caller asks for.
+#[derive(Clone, Copy, Debug, PartialEq, Eq)]
+pub struct Request {
+    pub cue: usize,
+    pub stream: usize,
+}
 
 // What is shown of a cue.
 #[derive(Clone, Copy, Debug, PartialEq, Eq)]

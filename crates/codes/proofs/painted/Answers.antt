@@ -9,8 +9,8 @@ returns-then-value-lt256 c p = rw (eq-eqb _ 4 c.if-size-eq4.true, lt-ltb _ 256 c
 
 pub returns-then-size-eq4 : goal.returns-then-size-eq4
 unfolding paints
-returns-then-size-eq4 c p = rw (eq-eqb _ 4 c.if-size-eq4.true, le-ltb _ 256 c.if-value-lt256.false) c.min-run.ensures
+returns-then-size-eq4 c p = rw (eq-eqb _ 4 c.if-size-eq4.true, le-ltb _ 256 c.if-value-lt256.false) c.lesser-run.ensures
 
 pub returns : goal.returns
 unfolding paints
-returns c p = rw (ne_eqb _ 4 c.if-size-eq4.false) c.min-run.ensures
+returns c p = rw (ne_eqb _ 4 c.if-size-eq4.false) c.lesser-run.ensures

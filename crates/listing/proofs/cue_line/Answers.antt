@@ -13,16 +13,16 @@ use Rattle.listing_model.specs.Answers.{table_of, position_line}
 use Rattle.listing_model.specs.Title.{cue_line}
 use Rattle.listing_model.proofs.Table.{line-none, line-last, line-next, form-none, form-some}
 use Rattle.listing_model.proofs.Claim.{listed-line}
-use Rattle.listing.proofs.cue_line.Goals.{After-min-size, then-next-size, else-next-size}
+use Rattle.listing.proofs.cue_line.Goals.{After-lesser-size, then-next-size, else-next-size}
 use Rattle.listing.proofs.cue_line.Goals as goal
 
-sized : (c : After-min-size) → c.min-size.result ≡ min c.args.cues (min (length c.args.starts.now) (length c.args.positions.now))
-sized c = omega (arith, c.min.ensures, c.min-size.ensures)
+sized : (c : After-lesser-size) → c.lesser-size.result ≡ min c.args.cues (min (length c.args.starts.now) (length c.args.positions.now))
+sized c = omega (arith, c.lesser.ensures, c.lesser-size.ensures)
 
 pub returns-then-size-n : goal.returns-then-size-n
 returns-then-size-n c =
     let a = c.args in
-    let s = sized (goal.at.returns-then-size-n c).After-min-size in
+    let s = sized (goal.at.returns-then-size-n c).After-lesser-size in
     listed-line _ a.file.now a.n {k = 210} _ _ _ (omega arith)
     (line-none a.starts.now a.positions.now a.cues a.file.now a.n _ s c.if-size-n.true)
     (search rules)
@@ -31,7 +31,7 @@ returns-then-size-n c =
 pub returns : goal.returns
 returns c =
     let a = c.args in
-    let s = sized (goal.at.returns c).After-min-size in
+    let s = sized (goal.at.returns c).After-lesser-size in
     let z = to_z w64 (of_z w64 (get_or a.starts.now a.n (pos 0))) in
     let p = get_or a.positions.now a.n 0 in
     let q : z ≡ get_or a.starts.now a.n (pos 0) = to_z-of_z {w = w64} (record { sfits = search rules }) in

@@ -21,6 +21,6 @@ pub returns : goal.returns
 returns c =
     let l : length c.args.scratch.now ≡ 65536 = search rules in (
       found-record c.args.start.0 _ c.args.file.now c.shared_slice_known-1.given c.args.position _ _ _ l
-          (named (ap answered c.in_ok-unit.was) c.extract_spu.ensures.0) (rw (← c.unit_part-bytes.ensures) c.measured_in_time.ensures),
+          (named (ap answered c.in_ok-unit.was) c.extract_spu.ensures.0) (rw (← c.unit_part-bytes.ensures 0) c.measured_in_time.ensures),
       scratch-kept c.args.file.now c.shared_slice_known-1.given c.args.position _ _ _ l c.extract_spu.ensures.0,
     )

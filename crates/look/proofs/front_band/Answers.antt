@@ -4,4 +4,4 @@ use Rattle.bands_model.proofs.Look.{front_is}
 use Rattle.look.proofs.front_band.Goals as goal
 
 pub returns-clause-some : goal.returns-clause-some
-returns-clause-some c = front_is c.args.words.now _ _ _ c.in-len3-up.len_at_least refl c.min-n.ensures refl
+returns-clause-some c = front_is c.args.words.now _ _ _ c.in-len3-up.len_at_least refl c.lesser-n.ensures refl

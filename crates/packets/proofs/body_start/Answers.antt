@@ -3,7 +3,7 @@ use native.Mathlib.Omega.{arith}
 use Prim.Native.Nat.{ℕ, ◌/◌}
 use mathlib.Core.Path.{sym, ap, ◌∙◌}
 use Rattle.ps_model.proofs.PacketGrammar.{leading_le}
-use Rattle.ps_model.proofs.Body.{body-none, body-cut, body_at_lem, body_older, stuffed}
+use Rattle.ps_model.proofs.Body.{body-none, body-cut, body_at_lem, body_older}
 use Rattle.ps_model.proofs.Read.{missing}
 use Rattle.packets.proofs.body_start.Goals as goal
 
@@ -27,9 +27,9 @@ returns-then-first-eq2 c =
     c.after.ensures ∙ rw (s.4 (omega arith) 0) (body_at_lem _ b.3.0 (ap (λ (x : ℕ). x / 64) (sym (b.4 (omega arith) 0)) ∙ c.if-first-eq2.true) (omega (arith, s.3.0)))
 
 pub older_body-requires : goal.older_body-requires
-older_body-requires c = omega (arith, c.stuffing-n.ensures, stuffed c.args.pes.now _ c.min.ensures, leading_le 16 c.args.pes.now 0)
+older_body-requires c = omega (arith, c.stuffing.ensures, leading_le 16 c.args.pes.now 0)
 
 pub returns : goal.returns
 returns c =
     let b = rw c.in_ok-first.ensures.ok_part at c.first.ensures.item in
-    c.older_body.ensures ∙ body_older _ b.3.0 (λ e. c.if-first-eq2.false (ap (λ (x : ℕ). x / 64) (b.4 (omega arith) 0) ∙ e)) _ (c.stuffing-n.ensures ∙ stuffed c.args.pes.now _ c.min.ensures)
+    c.older_body.ensures ∙ body_older _ b.3.0 (λ e. c.if-first-eq2.false (ap (λ (x : ℕ). x / 64) (b.4 (omega arith) 0) ∙ e)) _ c.stuffing.ensures

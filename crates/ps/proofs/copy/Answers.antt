@@ -1,17 +1,17 @@
--- `ps::copy` meets its contract: a part that is overwritten is stores one after the other. Assumes nothing.
+-- `ps::copy` meets its contract: each turn is one byte more. Assumes nothing.
 use native.Mathlib.Omega.{arith}
-use Prim.Native.Nat.{◌+◌, ◌-◌}
-use mathlib.Core.Path.{◌≡◌, ap, ◌∙◌}
-use lib.ListN.{length, take, drop}
-use lib.Seq.{sets}
-use Rattle.outcome.proofs.Laws.{part_stored}
-use Rattle.ps_model.proofs.Loops.{part_length}
+use mathlib.Core.Path.{ap}
+use Prim.Native.Nat.{ℕ, ◌+◌}
+use lib.ListN.{set}
+use Rattle.outcome.proofs.Laws.{copying-starts, copying_goes, copying_ends}
+use Rattle.ps_model.proofs.Loops.{part_length, part-byte}
 use Rattle.ps.proofs.copy.Goals as goal
 
+pub loop-i-init : goal.loop-i-init
+loop-i-init c = copying-starts _ _ _
+
+pub loop-i-preserved : goal.loop-i-preserved
+loop-i-preserved c = copying_goes _ _ _ _ _ c.loop-i.invariant (omega (arith, c.loop-i-test.true, part_length c.args.file.now c.args.a c.args.m c.requires.0)) _ (ap (λ (x : ℕ). set c.loop-i.scratch (c.args.to + c.loop-i.i) x) (part-byte c.args.file.now c.args.a c.args.m c.requires.0 _ c.loop-i-test.true))
+
 pub returns : goal.returns
-returns c =
-    let z : c.args.to + c.args.m - c.args.to ≡ c.args.m = omega arith in
-    let y : c.args.a + c.args.m - c.args.a ≡ c.args.m = omega arith in
-    let e : c.copy_from_slice.new.self ≡ take c.args.m (drop c.args.a c.args.file.now) = rw (← y) c.copy_from_slice.ensures.after in
-    let l : length c.copy_from_slice.new.self ≡ c.args.m = ap length e ∙ part_length c.args.file.now c.args.a c.args.m c.requires.0 in
-    rw z (part_stored c.args.to c.args.m c.args.scratch.now c.copy_from_slice.new.self l c.requires.1 ∙ ap (sets c.args.scratch.now c.args.to) e)
+returns c = copying_ends _ _ _ _ _ c.loop-i.invariant (omega (arith, c.loop-i-test.false, part_length c.args.file.now c.args.a c.args.m c.requires.0))

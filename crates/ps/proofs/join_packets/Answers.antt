@@ -43,7 +43,7 @@ copy-requires c =
     let o = k.upto in
     let z = (c.loop-have.invariant g.0 g.1 g.2).size in
     let p = g.3 in
-    let m = c.min-m.ensures in
+    let m = c.lesser-m.ensures in
     (omega (arith, c.loop-have-test.true), omega (arith, c.loop-have-test.true))
 
 pub loop-have-smaller : goal.loop-have-smaller
@@ -54,7 +54,7 @@ loop-have-smaller c =
 pub loop-have-preserved : goal.loop-have-preserved
 loop-have-preserved c =
     λ ps q e. joining_goes _ _ (joined ps) c.args.t (omega (arith, e, unit-within _ _ _ ps q)) _ _ _ _ (c.loop-have.invariant ps q e) c.loop-have-test.true _ _ (keeps (goal.at.loop-have-preserved c).In-Keeps) _
-    c.min-m.ensures _ c.copy.ensures
+    c.lesser-m.ensures _ c.copy.ensures
 
 pub returns : goal.returns
 returns c =

@@ -4,4 +4,4 @@ use Rattle.vobsub.proofs.paint_found.Goals as goal
 
 pub returns : goal.returns
 returns c =
-    found-painted _ _ _ _ _ _ _ _ c.unit_part-bytes.ensures c.paint_unit.ensures
+    found-painted _ _ _ _ _ _ _ _ (c.unit_part-bytes.ensures 0) c.paint_unit.ensures

@@ -1,4 +1,4 @@
--- `idx_numbers::leading` meets its contract: std finds the first byte that does not pass. Assumes nothing.
+-- `idx_numbers::leading_where` meets its contract: std finds the first byte that does not pass. Assumes nothing.
 use mathlib.Core.Path.{◌≡◌, refl, sym, ◌∙◌}
 use mathlib.Core.Bool.{Bool, true, false}
 use borrow.Author.Tests.{tests}
@@ -6,7 +6,7 @@ use Rattle.std.proofs.Common.{rules, Bor, ℕ}
 use Rattle.std.proofs.lemmas.Fn.{says_at}
 use Rattle.std.proofs.lemmas.Iterator.{YieldsList-from_slice, IsFirst-from_position}
 use Rattle.idx_numbers_model.proofs.Loops.{first_front}
-use Rattle.idx_numbers.proofs.leading.Goals as goal
+use Rattle.idx_numbers.proofs.leading_where.Goals as goal
 
 pub returns : goal.returns
 returns g c = λ p h.
