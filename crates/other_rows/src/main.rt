@@ -162,7 +162,21 @@ fn built(i: usize, n: usize, pairs: usize) -> u8 {
     (i / n % 2) as u8 + 1
 }
 
+// Bytes 0 to 250 in turn, a turn at a time: with a remainder for each byte a row of packets without scratch took twice as long.
+fn fill_turns(s: &mut [u8]) {
+    let turn: [u8; 251] = std::array::from_fn(|i| (i % 251) as u8);
+    for chunk in s.chunks_mut(251) {
+        if let Some(front) = turn.get(..chunk.len()) {
+            chunk.copy_from_slice(front);
+        }
+    }
+}
+
 fn fill(s: &mut [u8], n: usize, pairs: usize) {
+    if n == 0 {
+        fill_turns(s);
+        return;
+    }
     for (i, b) in s.iter_mut().enumerate() {
         *b = built(i, n, pairs);
     }
