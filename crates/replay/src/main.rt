@@ -251,10 +251,25 @@ fn answer_of(class: u8, bytes: &[u8], numbers: [usize; 4]) -> Option<Answer> {
     }
 }
 
+// Whether the input has bytes for all of s. A read that fails is the end of input, also where a signal interrupts it, after which `read_exact`
+// would try again.
+fn read_all(input: &mut impl Read, s: &mut [u8]) -> bool {
+    let mut done = 0;
+    // each turn goes on behind what was read
+    while done < s.len() {
+        let n = input.read(&mut s[done..]).unwrap_or(0);
+        if n == 0 {
+            return false;
+        }
+        done += n;
+    }
+    true
+}
+
 // Whether the next row of the list is there and is answered as it expects.
 fn next_row(input: &mut impl Read) -> bool {
     let mut head = [0; 16];
-    if input.read_exact(&mut head).is_err() {
+    if !read_all(input, &mut head) {
         return false;
     }
     let [
@@ -279,7 +294,7 @@ fn next_row(input: &mut impl Read) -> bool {
     let Some(bytes) = room.get_mut(..word_of(l0, l1)) else {
         return false;
     };
-    if input.read_exact(bytes).is_err() {
+    if !read_all(input, bytes) {
         return false;
     }
     let numbers = [
@@ -295,9 +310,10 @@ fn next_row(input: &mut impl Read) -> bool {
 // As many rows as the next two bytes of the list say.
 fn replay_class(rt: &impl Print, input: &mut impl Read, name: &str) {
     let mut head = [0; 2];
-    let what = match input.read_exact(&mut head) {
-        Ok(()) => ": replayed ",
-        Err(_) => ": no list, ",
+    let what = if read_all(input, &mut head) {
+        ": replayed "
+    } else {
+        ": no list, "
     };
     let count = word_of(head[0], head[1]);
     let differ = (0..count).filter(|_| !next_row(input)).count();
@@ -313,7 +329,7 @@ fn main(rt: HostRuntime) {
     let mut input = rt.reader();
     // how the list was made, in words
     let mut words = [0; 128];
-    if input.read_exact(&mut words).is_ok() {
+    if read_all(&mut input, &mut words) {
         let _ = rt.write_all(&words[..]);
     }
     for name in [
