@@ -1,6 +1,6 @@
 /* Calls the functions whose stack the header names, each in a thread with a stack of its own, and prints what they gave and how much of that
-   stack was written to, less what a thread that calls nothing writes to. Ends with 1 where a refusal is not the expected one, or where more is
-   taken than the header says. */
+   stack was written to below the frame of the function that calls them, whose own bytes there count too. Ends with 1 where a refusal is not the
+   expected one, or where more is taken than the header says. */
 #define _POSIX_C_SOURCE 200809L
 #include <pthread.h>
 #include <stdio.h>
@@ -22,38 +22,47 @@ static size_t payload_len, unit_len, file_len, count, codes, clipped, numbers[VO
 static uint64_t shown[VOBSUB_SHOWN_NUMBERS];
 static int64_t times[VOBSUB_TIMES];
 
+/* where the frame of the function stands that is run */
+static unsigned char *frame;
+
 static void *nothing(void *unused)
 {
+    frame = __builtin_frame_address(0);
     return unused;
 }
 
 static void *read_payload(void *unused)
 {
+    frame = __builtin_frame_address(0);
     refusal = vobsub_parse_chg_colcon_payload(payload, payload_len, bands, &count);
     return unused;
 }
 
 static void *decode_field(void *unused)
 {
+    frame = __builtin_frame_address(0);
     refusal = vobsub_decode_rle_field(field, sizeof field, 4, 4, 0, pixels, sizeof pixels, &codes, &clipped);
     return unused;
 }
 
 static void *decode_unit(void *unused)
 {
+    frame = __builtin_frame_address(0);
     refusal = vobsub_parse_and_decode_spu(unit, unit_len, pixels, sizeof pixels, bands, numbers);
     return unused;
 }
 
 static void *decode_cue(void *unused)
 {
+    frame = __builtin_frame_address(0);
     refusal = vobsub_decode_cue((const uint8_t *)text, sizeof text - 1, file, file_len, 0, 0, scratch, sizeof scratch,
                                 pixels, sizeof pixels, canvas, sizeof canvas, times, shown);
     return unused;
 }
 
-/* runs a function in a thread, and gives the bytes of its stack that were written to; it calls no memset */
-static size_t run(void *(*function)(void *))
+/* runs a function in a thread, and gives the bytes of its stack that were written to, and those of them below the function's frame; it calls no
+   memset */
+static size_t run(void *(*function)(void *), size_t *below)
 {
     pthread_t thread;
     pthread_attr_t attr;
@@ -70,6 +79,7 @@ static size_t run(void *(*function)(void *))
         exit(2);
     for (i = 0; i < STACK && marked[i] == MARK; i++)
         ;
+    *below = (size_t)(frame - stack) - i;
     free(stack);
     return STACK - i;
 }
@@ -77,7 +87,8 @@ static size_t run(void *(*function)(void *))
 /* ends the program unless a function gives that refusal and takes so many KiB at most */
 static void take(const char *name, void *(*function)(void *), uint8_t expected, size_t kib)
 {
-    size_t bare = run(nothing), used = run(function) - bare;
+    size_t used;
+    run(function, &used);
     printf("%s: refusal %u, %zu bytes of stack\n", name, refusal, used);
     if (refusal != expected || used > kib * 1024)
         exit(1);
@@ -119,7 +130,7 @@ static void put_unit(size_t many, uint8_t top)
 
 int main(void)
 {
-    size_t bare = run(nothing), first = run(decode_field) - bare;
+    size_t below, bare = run(nothing, &below), first = run(decode_field, &below) - bare;
 
     /* where a call of memset or memcpy is the program's first, the loader finds the function then, on the same stack */
     printf("a thread that calls nothing: %zu bytes of stack\n", bare);

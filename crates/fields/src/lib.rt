@@ -140,7 +140,9 @@ fn decode_over(
     Ok(plus_counts(first, counts))
 }
 
-// Two fields, both measured before the first pixel is stored: rows 0, 2, .. and rows 1, 3, .. .
+// Two fields, both measured before the first pixel is stored: rows 0, 2, .. and rows 1, 3, .. . In its caller's frame, so that a unit takes no
+// more stack than the header gives it.
+#[inline(always)]
 fn decode_both_through(both: Both, kept: &mut [u16], pixels: &mut [u8]) -> Result<Counts, Refusal>
     requires { BothFit (length pixels.old) both.width both.rows both.more }
     ensures { BothDecoded both.entry.width (part_rows both.entry.upper.now both.entry.width both.entry.rows) (part_rows both.entry.lower.now both.entry.width both.entry.more) pixels.old (answered result) pixels.new }

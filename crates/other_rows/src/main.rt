@@ -240,6 +240,8 @@ fn back(unit: &[u8], picture: Picture<'_>, map: &mut [u8]) -> Option<usize> {
     (is_same && s.clipped == 0).then_some(s.codes)
 }
 
+// In its caller, so that a picture that the writer refuses does not wait for the registers of one call more.
+#[inline(always)]
 fn build(picture: Picture<'_>, out: &mut [u8]) -> Result<usize, Refusal> {
     demo::build_demo_spu(picture.width, picture.height, picture.indices, out)
 }
