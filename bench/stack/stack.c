@@ -11,12 +11,15 @@
 
 enum { STACK = 512 * 1024, MARK = 0xA5, LONG = 16 * 1024 * 1024, BAND = 4 + 15 * 6, MOST = 32 };
 
+/* a picture whose pixels are a code each, and the bytes of each of its two fields: more than 8192, so that the most room is made for codes */
+enum { WIDTH = 16, HEIGHT = 2200, LONG_FIELD = HEIGHT / 2 * WIDTH / 2 };
+
 /* what the header says, in KiB; the last is what a thread needs beside the others */
 enum { PAYLOAD = 4, FIELD = 129, UNIT = 263, CUE = 264, BESIDE = 8 };
 
 static const char text[] = "timestamp: 0:0:1, filepos: 0";
 static const uint8_t field[] = {0, 1, 0, 2};
-static uint8_t payload[LONG], unit[65535], file[65535], scratch[65535], pixels[16], canvas[64], refusal;
+static uint8_t payload[LONG], unit[65535], file[65535], scratch[65535], pixels[WIDTH * HEIGHT], canvas[4 * WIDTH * HEIGHT], refusal;
 static uint16_t bands[VOBSUB_BANDS];
 static size_t payload_len, unit_len, file_len, count, codes, clipped, numbers[VOBSUB_NUMBERS];
 static uint64_t shown[VOBSUB_SHOWN_NUMBERS];
@@ -42,6 +45,13 @@ static void *decode_field(void *unused)
 {
     frame = __builtin_frame_address(0);
     refusal = vobsub_decode_rle_field(field, sizeof field, 4, 4, 0, pixels, sizeof pixels, &codes, &clipped);
+    return unused;
+}
+
+static void *decode_long_field(void *unused)
+{
+    frame = __builtin_frame_address(0);
+    refusal = vobsub_decode_rle_field(unit + 4, LONG_FIELD, WIDTH, HEIGHT, 0, pixels, sizeof pixels, &codes, &clipped);
     return unused;
 }
 
@@ -107,12 +117,43 @@ static size_t put_bands(uint8_t *out, size_t many)
     return many * BAND;
 }
 
-/* a unit of four by four pixels with that many bands of 15 entries and its first field at that place, and a file with the unit in a packet */
+/* a file with the unit in a packet */
+static void put_file(void)
+{
+    static const uint8_t packet[] = {0, 0, 1, 0xBD, 0, 0, 0x80, 0, 0, 0x20};
+    memcpy(file, packet, sizeof packet);
+    file[4] = (uint8_t)((unit_len + 4) / 256);
+    file[5] = (uint8_t)(unit_len + 4);
+    memcpy(file + sizeof packet, unit, unit_len);
+    file_len = sizeof packet + unit_len;
+}
+
+/* a unit with those two long fields, without bands */
+static void put_long_unit(void)
+{
+    static const uint8_t area[] = {0x03, 0x01, 0x32, 0x04, 0x0F, 0xFF, 0x05, 0, 0, WIDTH - 1, 0, (HEIGHT - 1) / 256, (HEIGHT - 1) % 256, 0x06, 0, 4};
+    size_t bottom = 4 + LONG_FIELD, control = bottom + LONG_FIELD, at = control + 4;
+    unit[2] = unit[control + 2] = (uint8_t)(control / 256);
+    unit[3] = unit[control + 3] = (uint8_t)control;
+    memset(unit + 4, 0x55, 2 * LONG_FIELD);
+    unit[control] = unit[control + 1] = 0;
+    memcpy(unit + at, area, sizeof area);
+    at += sizeof area;
+    unit[at] = (uint8_t)(bottom / 256);
+    unit[at + 1] = (uint8_t)bottom;
+    unit[at + 2] = 0x01;
+    unit[at + 3] = 0xFF;
+    unit_len = at + 4;
+    unit[0] = (uint8_t)(unit_len / 256);
+    unit[1] = (uint8_t)unit_len;
+    put_file();
+}
+
+/* a unit of four by four pixels with that many bands of 15 entries and its first field at that place */
 static void put_unit(size_t many, uint8_t top)
 {
     static const uint8_t front[] = {0, 0, 0, 12, 0, 1, 0, 2, 0, 3, 0, 0, 0, 0, 0, 12, 0x03, 0x01, 0x32, 0x04, 0x0F, 0xFF,
                                     0x05, 0, 0, 3, 0, 0, 3, 0x06, 0, 0, 0, 8, 0x01, 0x07};
-    static const uint8_t packet[] = {0, 0, 1, 0xBD, 0, 0, 0x80, 0, 0, 0x20};
     size_t size = many * BAND + 2, at = sizeof front;
     memcpy(unit, front, at);
     unit[31] = top;
@@ -121,11 +162,7 @@ static void put_unit(size_t many, uint8_t top)
     unit_len = at + 2 + put_bands(unit + at + 2, many);
     unit[0] = (uint8_t)(unit_len / 256);
     unit[1] = (uint8_t)unit_len;
-    memcpy(file, packet, sizeof packet);
-    file[4] = (uint8_t)((unit_len + 4) / 256);
-    file[5] = (uint8_t)(unit_len + 4);
-    memcpy(file + sizeof packet, unit, unit_len);
-    file_len = sizeof packet + unit_len;
+    put_file();
 }
 
 int main(void)
@@ -145,6 +182,10 @@ int main(void)
     put_unit(MOST, 12);
     take("unit, no bytes in its first field", decode_unit, 26, UNIT);
     take("cue, no bytes in its first field", decode_cue, 26, CUE);
+    put_long_unit();
+    take("field, 8,800 bytes", decode_long_field, 0, FIELD);
+    take("unit, fields of 8,800 bytes", decode_unit, 0, UNIT);
+    take("cue, fields of 8,800 bytes", decode_cue, 0, CUE);
     put_unit(MOST + 1, 4);
     take("unit, 33 bands of 15 entries", decode_unit, 34, UNIT);
     take("cue, 33 bands of 15 entries", decode_cue, 34, CUE);
