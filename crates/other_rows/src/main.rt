@@ -17,7 +17,7 @@ use control_model::Spu;
 use nibbles::NibbleReader;
 use outcome::{Refusal, lesser};
 use ps_model::UnitAt;
-use run_rows::{Onward, Row, write_unit};
+use run_rows::{Onward, Row, write_byte, write_signed, write_unit, write_word};
 use std::io;
 
 const FOUND: u8 = 238;
@@ -62,7 +62,7 @@ fn nibble(rt: &impl Print, row: &Row<'_>) -> io::Result<()> {
 
 fn measured(rt: &impl Print, row: &Row<'_>) -> io::Result<()> {
     match spu::measure_spu(row.bytes) {
-        Ok(s) => write_unit(&Onward(rt), &vobsub_numbers::numbers_of(s)),
+        Ok(s) => write_unit(rt, &vobsub_numbers::numbers_of(s)),
         Err(refusal) => write_refused(rt, refusal),
     }
 }
@@ -96,7 +96,10 @@ fn times(rt: &impl Print, row: &Row<'_>) -> io::Result<()> {
             let show = vobsub_numbers::time_in(t.show);
             let hides = u8::from(t.hide.is_some());
             let hide = vobsub_numbers::time_in(t.hide);
-            print!(rt; ": show {show}, hides {hides}, hide {hide}")
+            rt.write_all(b": show")?;
+            write_signed(rt, show)?;
+            print!(rt; ", hides {hides}, hide")?;
+            write_signed(rt, hide)
         }
         Err(refusal) => write_refused(rt, refusal),
     }
@@ -142,12 +145,12 @@ fn look(rt: &impl Print, row: &Row<'_>) -> io::Result<()> {
     };
     match look::chg_colcon_lookup(front, x, y) {
         Some(four) => {
-            print!(rt;
-                ": selectors {:04X} alphas {:04X}",
-                four.selectors, four.alphas
-            )
+            print!(rt; ": selectors ")?;
+            write_word(rt, four.selectors)?;
+            print!(rt; " alphas ")?;
+            write_word(rt, four.alphas)
         }
-        None => print!(rt; ": nothing"),
+        None => rt.write_all(b": nothing"),
     }
 }
 
@@ -267,7 +270,8 @@ fn write_built(
     print!(rt; ": wrote {n}")?;
     if bytes {
         for b in unit {
-            print!(rt; " {b:02X}")?;
+            rt.write_all(b" ")?;
+            write_byte(rt, *b)?;
         }
     }
     let left = found(rest);
@@ -275,7 +279,7 @@ fn write_built(
     let mut map = [FOUND; 131072];
     match back(unit, picture, &mut map) {
         Some(codes) => print!(rt; "; codes {codes}, read back"),
-        None => print!(rt; "; NOT read back"),
+        None => rt.write_all(b"; NOT read back"),
     }
 }
 
@@ -368,7 +372,8 @@ fn answer(rt: &impl Print, row: &Row<'_>) -> io::Result<()> {
         }
         b"converted" => {
             let micros = clock::converted(ticks(row.given(0)));
-            print!(rt; ": {}", micros.0)
+            rt.write_all(b":")?;
+            write_signed(rt, micros.0)
         }
         b"times_of" => times(rt, row),
         b"chg_colcon_lookup" => look(rt, row),

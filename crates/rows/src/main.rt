@@ -8,7 +8,7 @@
 // the others in runs.
 #![tactic(auto)]
 
-use run_rows::{Onward, Row, write_unit};
+use run_rows::{Onward, Row, write_byte, write_signed, write_unit};
 use std::fmt::Display;
 use std::io;
 
@@ -48,15 +48,19 @@ fn is_answered(rt: &impl Print, refusal: u8) -> io::Result<bool> {
 
 fn write_lent<T: Lent>(rt: &impl Print, value: T) -> io::Result<()> {
     if value == T::FOUND {
-        print!(rt; " .")
+        rt.write_all(b" .")
     } else {
         print!(rt; " {value}")
     }
 }
 
-fn write_all_lent<T: Lent>(rt: &impl Print, values: &[T]) -> io::Result<()> {
-    for value in values {
-        write_lent(rt, *value)?;
+fn write_times(rt: &impl Print, times: &[i64]) -> io::Result<()> {
+    for time in times {
+        if *time == i64::FOUND {
+            rt.write_all(b" .")?;
+        } else {
+            write_signed(rt, *time)?;
+        }
     }
     Ok(())
 }
@@ -77,10 +81,14 @@ fn write_runs<T: Lent>(rt: &impl Print, values: &[T]) -> io::Result<()> {
 fn write_hex<T: Lent + Into<u64>>(rt: &impl Print, values: &[T], digits: usize) -> io::Result<()> {
     for value in values {
         if *value == T::FOUND {
-            print!(rt; " .")?;
+            rt.write_all(b" .")?;
         } else {
             let n: u64 = (*value).into();
-            print!(rt; " {n:0digits$X}")?;
+            rt.write_all(b" ")?;
+            if digits == 4 {
+                write_byte(rt, (n / 256 % 256) as u8)?;
+            }
+            write_byte(rt, (n % 256) as u8)?;
         }
     }
     Ok(())
@@ -88,7 +96,7 @@ fn write_hex<T: Lent + Into<u64>>(rt: &impl Print, values: &[T], digits: usize) 
 
 // An array of bands of which `used` words are used.
 fn write_bands(rt: &impl Print, words: &[u16; 1536], used: usize) -> io::Result<()> {
-    print!(rt; "; bands")?;
+    rt.write_all(b"; bands")?;
     let Some((front, rest)) = words.split_at_checked(used) else {
         return Ok(());
     };
@@ -105,9 +113,9 @@ fn unit(rt: &impl Print, row: &Row<'_>) -> io::Result<()> {
     let mut words = [u16::FOUND; 1536];
     let refusal = vobsub_c::vobsub_parse_and_decode_spu(row.bytes, map, &mut words, &mut numbers);
     if is_answered(rt, refusal)? {
-        write_unit(&Onward(rt), &numbers)?;
+        write_unit(rt, &numbers)?;
     }
-    print!(rt; "; map")?;
+    rt.write_all(b"; map")?;
     write_runs(rt, map)?;
     write_bands(rt, &words, numbers[14])
 }
@@ -118,7 +126,8 @@ fn write_part(rt: &impl Print, s: &[u8], from: usize, length: usize) -> io::Resu
         return Ok(());
     };
     for b in &rest[..length.min(rest.len())] {
-        print!(rt; " {b:02X}")?;
+        rt.write_all(b" ")?;
+        write_byte(rt, *b)?;
     }
     Ok(())
 }
@@ -148,7 +157,7 @@ fn packets(rt: &impl Print, row: &Row<'_>) -> io::Result<()> {
             write_part(rt, scratch, 0, length)?;
         }
     }
-    print!(rt; "; scratch")?;
+    rt.write_all(b"; scratch")?;
     write_hex(rt, scratch, 2)
 }
 
@@ -159,8 +168,9 @@ fn write_palette(rt: &impl Print, any: u64, palette: &[u8; 48]) -> io::Result<()
         return Ok(());
     }
     for colour in palette.chunks_exact(3) {
-        if let [red, green, blue] = colour {
-            print!(rt; " {red:02X}{green:02X}{blue:02X}")?;
+        rt.write_all(b" ")?;
+        for part in colour {
+            write_byte(rt, *part)?;
         }
     }
     Ok(())
@@ -190,15 +200,18 @@ fn index(rt: &impl Print, row: &Row<'_>) -> io::Result<()> {
         write_palette(rt, any as u64, &palette)?;
         print!(rt; ", cues {cues}")?;
     }
-    print!(rt; "; starts")?;
-    write_all_lent(rt, starts)?;
-    print!(rt; "; positions")?;
-    write_all_lent(rt, positions)
+    rt.write_all(b"; starts")?;
+    write_times(rt, starts)?;
+    rt.write_all(b"; positions")?;
+    for position in positions {
+        write_lent(rt, *position)?;
+    }
+    Ok(())
 }
 
 fn write_duration(rt: &impl Print, set: u64, duration: u64) -> io::Result<()> {
     if set == 0 {
-        print!(rt; " -")
+        rt.write_all(b" -")
     } else {
         print!(rt; " {duration}")
     }
@@ -213,7 +226,9 @@ fn cue(rt: &impl Print, row: &Row<'_>) -> io::Result<()> {
     let refusal = vobsub_c::vobsub_pick_cue(row.bytes, n, &mut start, &mut palette, &mut numbers);
     if is_answered(rt, refusal)? {
         let [position, set, duration, any] = numbers;
-        print!(rt; ": start {start}, position {position}, duration")?;
+        rt.write_all(b": start")?;
+        write_signed(rt, start)?;
+        print!(rt; ", position {position}, duration")?;
         write_duration(rt, set, duration)?;
         write_palette(rt, any, &palette)?;
     }
@@ -227,9 +242,9 @@ fn write_cue(
     numbers: &[u64; 13],
 ) -> io::Result<()> {
     if !is_answered(rt, refusal)? {
-        print!(rt; ", times")?;
-        write_all_lent(rt, &times[..])?;
-        print!(rt; ", numbers")?;
+        rt.write_all(b", times")?;
+        write_times(rt, &times[..])?;
+        rt.write_all(b", numbers")?;
         return write_runs(rt, &numbers[..]);
     }
     let [start, show, hide] = *times;
@@ -248,11 +263,15 @@ fn write_cue(
         stopped,
         hides,
     ] = *numbers;
-    print!(rt; ": {start}")?;
+    rt.write_all(b":")?;
+    write_signed(rt, start)?;
     write_duration(rt, set, duration)?;
     print!(rt; ", at {x} {y}, size {width} {height}, delays {start_delay} {stop_delay}")?;
     print!(rt; ", codes {codes}, clipped {clipped}, started {started}, stopped {stopped}")?;
-    print!(rt; ", hides {hides}, show {show}, hide {hide}")
+    print!(rt; ", hides {hides}, show")?;
+    write_signed(rt, show)?;
+    rt.write_all(b", hide")?;
+    write_signed(rt, hide)
 }
 
 fn paint(rt: &impl Print, row: &Row<'_>) -> io::Result<()> {
@@ -287,11 +306,11 @@ fn paint(rt: &impl Print, row: &Row<'_>) -> io::Result<()> {
         &mut numbers,
     );
     write_cue(rt, refusal, &times, &numbers)?;
-    print!(rt; "; scratch")?;
+    rt.write_all(b"; scratch")?;
     write_runs(rt, scratch)?;
-    print!(rt; "; map")?;
+    rt.write_all(b"; map")?;
     write_runs(rt, map)?;
-    print!(rt; "; canvas")?;
+    rt.write_all(b"; canvas")?;
     write_runs(rt, canvas)
 }
 
@@ -312,14 +331,15 @@ fn field(rt: &impl Print, row: &Row<'_>) -> io::Result<()> {
         &mut clipped,
     );
     if is_answered(rt, refusal)? {
-        print!(rt; ": codes")?;
+        rt.write_all(b":")?;
     } else {
-        print!(rt; ", codes")?;
+        rt.write_all(b",")?;
     }
+    rt.write_all(b" codes")?;
     write_lent(rt, codes as u64)?;
-    print!(rt; ", clipped")?;
+    rt.write_all(b", clipped")?;
     write_lent(rt, clipped as u64)?;
-    print!(rt; ",")?;
+    rt.write_all(b",")?;
     write_runs(rt, map)
 }
 

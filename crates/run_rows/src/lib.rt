@@ -5,7 +5,7 @@ ghost use Rattle.std.specs.Prelude.{◌≡◌, ◌<◌, ◌≤◌, ◌≢◌, �
 ghost use Rattle.run_rows.specs.Line.{TakesLine};
 ghost use Rattle.table.specs.Table.{given_at, part_at, Stored};
 
-use std::fmt::Display;
+use std::fmt::{self, Display, Write};
 use std::io::{self, Read};
 
 // A row: its line, and the bytes that the fourth part of the line writes.
@@ -49,7 +49,46 @@ pub fn next_line<R: Read>(input: &mut R, text: &mut [u8]) -> usize
     text.len()
 }
 
-// Prints through another, and goes on where a write fails: what that leaves unwritten stays so.
+// What is formatted, in pieces: a number, and each other letter by itself.
+#[derive(Drop)]
+struct Pieces<'a, P> {
+    rt: &'a P,
+    digits: [u8; 20],
+    count: usize,
+}
+
+impl<P: Print> Pieces<'_, P> {
+    // Writes the digits that are held.
+    fn flush(&mut self) {
+        if let Some(number) = self.digits.get(..self.count) {
+            let _ = self.rt.write_all(number);
+        }
+        self.count = 0;
+    }
+
+    fn push(&mut self, letter: u8) {
+        if letter.is_ascii_digit()
+            && let Some(place) = self.digits.get_mut(self.count)
+        {
+            *place = letter;
+            self.count += 1;
+        } else {
+            self.flush();
+            let _ = self.rt.write_all(&[letter]);
+        }
+    }
+}
+
+impl<P: Print> Write for Pieces<'_, P> {
+    fn write_str(&mut self, s: &str) -> fmt::Result {
+        for letter in s.as_bytes() {
+            self.push(*letter);
+        }
+        Ok(())
+    }
+}
+
+// Prints through another, piece by piece, and goes on where a write fails: what that leaves unwritten stays so.
 #[derive(Clone, Copy)]
 pub struct Onward<'a, P>(pub &'a P);
 
@@ -57,15 +96,21 @@ impl<'a, P: Print> Print for Onward<'a, P> {
     fn print<D: Display + Drop>(&self, value: D) -> io::Result<()>
         ensures { IsOk result }
     {
-        let _ = self.0.print(value);
+        let mut pieces = Pieces {
+            rt: self.0,
+            digits: [0; 20],
+            count: 0,
+        };
+        let _ = pieces.write(value);
+        pieces.flush();
         Ok(())
     }
 
     fn println<D: Display + Drop>(&self, value: D) -> io::Result<()>
         ensures { IsOk result }
     {
-        let _ = self.0.println(value);
-        Ok(())
+        self.print(value)?;
+        self.write_all(b"\n")
     }
 
     fn write_all(&self, bytes: &[u8]) -> io::Result<()>
@@ -80,11 +125,53 @@ impl<'a, P: Print> Print for Onward<'a, P> {
     }
 }
 
-// Writes a unit's numbers, which stand in the order of include/vobsub.h, piece by piece.
-// Ruled out: a piece left out because one before it was not written.
-pub fn write_unit<P: Print>(rt: &Onward<'_, P>, numbers: &[usize; 17]) -> io::Result<()>
+// A digit in hexadecimal.
+fn digit(n: u8) -> u8 {
+    let d = n % 16;
+    if d < 10 { b'0' + d } else { b'A' - 10 + d }
+}
+
+// Writes the two digits of a byte in hexadecimal, each by itself.
+// Ruled out: a digit left out because the one before it was not written.
+pub fn write_byte(rt: &impl Print, b: u8) -> io::Result<()>
     ensures { IsOk result }
 {
+    let rt = &Onward(rt);
+    rt.write_all(&[digit(b / 16)])?;
+    rt.write_all(&[digit(b)])
+}
+
+// The four of a word.
+// Ruled out: a byte left out because the one before it was not written.
+pub fn write_word(rt: &impl Print, w: u16) -> io::Result<()>
+    ensures { IsOk result }
+{
+    let rt = &Onward(rt);
+    write_byte(rt, (w / 256) as u8)?;
+    write_byte(rt, (w % 256) as u8)
+}
+
+// Writes a blank and a number, with the blank and the sign of a negative one as one piece.
+// Ruled out: a number left out because its sign was not written.
+pub fn write_signed(rt: &impl Print, z: i64) -> io::Result<()>
+    ensures { IsOk result }
+{
+    let rt = &Onward(rt);
+    if z < 0 {
+        rt.write_all(b" -")?;
+        let size = z.unsigned_abs();
+        print!(rt; "{size}")
+    } else {
+        print!(rt; " {z}")
+    }
+}
+
+// Writes a unit's numbers, which stand in the order of include/vobsub.h, piece by piece.
+// Ruled out: a piece left out because one before it was not written.
+pub fn write_unit(rt: &impl Print, numbers: &[usize; 17]) -> io::Result<()>
+    ensures { IsOk result }
+{
+    let rt = Onward(rt);
     let [
         x1,
         y1,
@@ -104,7 +191,10 @@ pub fn write_unit<P: Print>(rt: &Onward<'_, P>, numbers: &[usize; 17]) -> io::Re
         codes,
         clipped,
     ] = *numbers;
-    print!(rt; ": area {x1} {y1} {x2} {y2}, selectors {selectors:04X}, alphas {alphas:04X}")?;
+    print!(rt; ": area {x1} {y1} {x2} {y2}, selectors ")?;
+    write_word(&rt, (selectors % 65536) as u16)?;
+    print!(rt; ", alphas ")?;
+    write_word(&rt, (alphas % 65536) as u16)?;
     print!(rt; ", start {started} {start}, stop {stopped} {stop}, forced {forced}")?;
     print!(rt;
         ", offsets {top} {bottom}, change {change}, band words {words}, codes {codes}, clipped {clipped}"
